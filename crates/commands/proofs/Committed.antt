@@ -15,11 +15,9 @@ use Rattle.base.specs.declared.operation.Op.{Op}
 use Rattle.base.specs.declared.operation.Op.TheVariants.{Remove}
 use Rattle.base.specs.declared.operation.Shape.{Shape}
 use Rattle.base.specs.declared.range.ObjectRange.{ObjectRange}
-use Rattle.base.specs.steps.Tables.{GoesOn, AreTablesExplained}
+use Rattle.base.specs.steps.Tables.{GoesOn}
 use Rattle.base.specs.steps.Steps.{State}
 use Rattle.base.proofs.common.KeptLists.{none_at}
-use Rattle.base.proofs.steps.KeptTables.{runs_keep_tables}
-use Rattle.base.proofs.steps.SeenGroups.{groups_go_up}
 use Rattle.base.proofs.steps.SeenStates.{at-prefix, grown, no-shorter}
 use Rattle.device_model.specs.declared.device.SectorDevice.{Ghosts}
 use Rattle.pool_threads.specs.declared.handle.Handle.{Handle}
@@ -27,12 +25,13 @@ use Rattle.pool_threads.specs.Answers.{state_seen}
 use Rattle.pool_threads.specs.Handles.{view_seen}
 use Rattle.pool_threads.specs.Transacts.{Locks, LocksAndBegins, MakesTransaction, TransactsOrLacks, plan_of_ops}
 use Rattle.pool_threads.specs.Views.{GrowsTo, SeenPool, viewed_state}
-use Rattle.pool_threads.specs.Waits.{AreDurable, SyncsPool, SyncsUpTo, result_of}
+use Rattle.pool_threads.specs.Waits.{AreDurable, SyncsPool}
 use Rattle.pool_threads.proofs.Along.{GoesAlong, along_made, along_on, along_same}
 use Rattle.pool_threads.proofs.TransactsSeen.{entered_by, transaction_grows}
 use Rattle.transactions.specs.LockRanges.{lock_ranges}
 use Rattle.durable_answers.proofs.Along.{along_syncs, along_transacts}
-use Rattle.commands.specs.Committed.{AreEntered, AreNewEntries, HappensOn, MakesFirst, PutsAsFound, PutsFrom, PutsIfRoom, PutsOn, RemovesOn, SyncsAfter, SyncsIfMade, command_owner, result_after}
+use Rattle.closed_pools.proofs.Sounds.{IsSound, durable_after, sound_on}
+use Rattle.commands.specs.Committed.{AreEntered, AreNewEntries, HappensOn, MakesFirst, PutsAsFound, PutsBy, PutsFrom, PutsIfRoom, PutsOn, RemovesOn, SyncsAfter, SyncsIfMade, command_owner, result_after}
 use Rattle.commands.specs.PutRoom.{lacks_room}
 use Rattle.commands.specs.Puts.{IsStartFor, put_transactions, start_of}
 use Rattle.commands.specs.declared.changes.Put.{Put}
@@ -62,15 +61,6 @@ entered_from : (durable : Type 0) (all : List (List Op)) (low from : ℕ) (s : S
 entered_from durable [] low from s lower there = tt
 entered_from durable (ops ∷ rest) low from s lower (ordinal, e, high, at, are, is, more) = (ordinal, e, (let least : low ≤ ordinal = omega (arith, lower, high) in least), at, are, is, more)
 
--- a state that its past explains, and one that it leads to
-abbrev IsSound : SeenPool → Type 0
-IsSound v = ∥ AreTablesExplained (viewed_state v).shown (viewed_state v).past ∥₁
-
-sound_on : (keeps : Type 0) (v w : SeenPool) → GrowsTo keeps v w → IsSound v → IsSound w
-sound_on keeps v w onward sound =
-    ∥∥₁_elim onward.goes_on ∥∥₁_prop (λ run.
-    ∥∥₁_map {B = AreTablesExplained (viewed_state w).shown (viewed_state w).past} sound (λ x. runs_keep_tables ⊥ run.0 run.1 (viewed_state v) (viewed_state w) run.2 x))
-
 -- a transaction's first step is made from a state that its past explains
 module _ (keeps : Type 0) (ranges : List ObjectRange) (ids : List LockId) where
   first_lock : (rs : List ObjectRange) (names : List LockId) (v w : SeenPool) → Locks keeps command_owner rs names v w → IsSound w → IsSound v
@@ -85,15 +75,6 @@ module _ (keeps : Type 0) (ranges : List ObjectRange) (ids : List LockId) where
 sound_after : (keeps : Type 0) (ranges : List ObjectRange) (plan : List Shape) (ops : List Op) (r : Receipt) (v w : SeenPool) → MakesTransaction keeps command_owner ranges plan ops (Ok r) v w → IsSound w
 sound_after keeps ranges plan ops r v w m = sound_on keeps v w (transaction_grows keeps command_owner ranges plan ops (Ok r) v w m) (first_step keeps ranges m.ids plan m.ends.tx v m.ends.begun m.ends.begins)
 
--- all that is there is durable once the group is synced that was open later
-durable_by_sync : (s looked after : State) → AreTablesExplained s.shown s.past → GoesOn s looked → looked.shown.line.open_group ≤ after.shown.line.synced → AreDurable s after
-durable_by_sync s looked after x onward synced = λ o e there.
-    let up = (groups_go_up s looked x onward).1 in
-    let a = x.exact.groups.members.committed o e there in
-    let known : a.0.group ≤ s.shown.line.open_group = x.exact.groups.members.known e.tx a.0 a.1 in
-    let same : a.0.group ≡ e.group = a.2 in
-    inl (let low : e.group ≤ after.shown.line.synced = omega (arith, up, known, same, synced) in low)
-
 module _ {Dev : Type 0} {G : Ghosts Dev} where
   sound_transacted : (ops : List Op) (r : Receipt) (old new : Handle Dev G) → TransactsOrLacks command_owner ops (Ok r) old new → IsSound (view_seen new)
   sound_transacted ops r old new (inl u) = sound_after (IsTrue G.keeps_model) (lock_ranges (plan_of_ops ops)) (plan_of_ops ops) ops r u.made.took (view_seen new) u.made.made
@@ -105,7 +86,7 @@ module _ {Dev : Type 0} {G : Ghosts Dev} where
   along_first (ops ∷ rest) (suc count) result old new (r, next, made, more) = along_on old next new (along_transacts command_owner ops (Ok r) old next made) (along_first rest count result next new more)
 
   -- after one that was committed the handle has seen a state that its past explains
-  sound_first : (all : List (List Op)) (count : ℕ) (result : Result (Unit {0}) PoolError) (old new : Handle Dev G) → count ≢ 0 → MakesFirst all count result old new → IsSound (view_seen new)
+  pub sound_first : (all : List (List Op)) (count : ℕ) (result : Result (Unit {0}) PoolError) (old new : Handle Dev G) → count ≢ 0 → MakesFirst all count result old new → IsSound (view_seen new)
   sound_first [] count result old new some (none, is, same) = absurd (some none)
   sound_first (ops ∷ rest) zero result old new some makes = absurd (some refl)
   sound_first (ops ∷ rest) (suc count) result old new some (r, next, made, more) =
@@ -127,17 +108,6 @@ module _ {Dev : Type 0} {G : Ghosts Dev} where
         λ never. absurd never,
         entered_from ⊥ (take count rest) (suc r.ordinal.0) (length (state_seen next).past.entries) (state_seen new) (below (state_seen next).past.entries r.ordinal.0 (record { group = r.group.0; tx = there.0.0; ops = ops }) there.1.entry) others,
       ))))
-
-  -- what was committed before a sync of the pool is durable after it
-  durable_after : (group : Group) (old new : Handle Dev G) → IsSound (view_seen old) → SyncsPool (Ok group) old new → ∥ AreDurable (state_seen old) (state_seen new) ∥₁
-  durable_after group old new sound s = go s.result s.answered s.syncs
-    where
-      go : (q : Result (Unit {0}) PoolError) → Ok group ≡ result_of s.group q → SyncsUpTo s.group q s.looked new → ∥ AreDurable (state_seen old) (state_seen new) ∥₁
-      go (Err e) is u = absurd (let no_way : Ok group ≡ Err e = is in cc)
-      go (Ok tt) is u =
-          ∥∥₁_elim s.looks.onward.goes_on ∥∥₁_prop (λ onward.
-          ∥∥₁_map {B = AreDurable (state_seen old) (state_seen new)} sound (λ x.
-          durable_by_sync (state_seen old) (state_seen s.looked) (state_seen new) x onward (let synced : (state_seen s.looked).shown.line.open_group ≤ (state_seen new).shown.line.synced = (let is_open = s.open_then in let up = u.made.made.1 in omega (arith, is_open, up)) in synced)))
 
   -- some were committed, and then the pool was synced
   module _ (all : List (List Op)) (count : ℕ) (made : Result (Unit {0}) PoolError) (old done new : Handle Dev G) (some : count ≢ 0) (makes : MakesFirst all count made old done) where
@@ -238,42 +208,53 @@ module _ (offset : Option ℕ) (found : Result ℕ PoolError) where
       by None (Err e) is = absurd (let no_way : Err e ≡ Ok start = is in cc)
       by (Some at) (Err e) is = absurd (let no_way : Err e ≡ Ok start = is in cc)
 
--- What a put says that ended well: all its transactions are in the history of its pool, none of them was there before,
--- and no crash loses one.
+-- What a handle did that put bytes, and ended well: all its transactions are in the history of its pool, none of them was
+-- there before, and no crash loses one.
+module _ {Dev : Type 0} {G : Ghosts Dev} (n : ObjectId) (offset : Option ℕ) (bytes : List ℕ) (put : Put) (first last : Handle Dev G) where
+  abbrev pub PutEnters : Start → Type 0
+  PutEnters start = IsStartFor offset start × (put.transactions ≡ length (put_transactions start n offset bytes)) × (put.bytes ≡ min (64512 * put.transactions) (length bytes))
+      × ∥ AreNewEntries (Unit {0}) (put_transactions start n offset bytes) (state_seen first) (state_seen last) ∥₁
+
+  pub put_enters : PutsBy n offset bytes put (Ok tt) first last → (start : Start) × PutEnters start
+  put_enters did = by (start_of offset did.found) refl did.puts
+    where
+      -- there was room for a put that ended well
+      with_room : (lacks : Bool) (start : Start) (old : Handle Dev G) → PutsIfRoom lacks start n offset bytes put (Ok tt) old last → PutsFrom start n offset bytes put (Ok tt) old last
+      with_room false start old p = p
+      with_room true start old (none, nothing, is, same) = absurd (let no_way : Ok tt ≡ Err NoSpace = is in cc)
+
+      by : (s : Result Start PoolError) → start_of offset did.found ≡ s → PutsAsFound s did.found n offset bytes put (Ok tt) did.looked last → (start : Start) × PutEnters start
+      by (Err e) is p = absurd (let no_way : Ok tt ≡ Err e = p.2 in cc)
+      by (Ok start) is r =
+          let p = with_room (lacks_room start offset bytes did.found r.status.available) start r.asked r.puts in
+          let all : List (List Op) = put_transactions start n offset bytes in
+          let w = all_stand all put r.asked p.done last p.made p.makes p.syncs in (
+            start,
+            (
+              may_start offset did.found start is,
+              w.0,
+              p.size,
+              entered_since (Unit {0}) all first r.asked (state_seen last) (along_on first did.looked r.asked (along_made did.looks) (along_made r.asks)) w.1,
+            ),
+          )
+
+-- So it is of a put into the pool of a device.
 module _ {Dev : Type 0} (G : Ghosts Dev) (device : Dev) (n : ObjectId) (offset : Option ℕ) (bytes : List ℕ) (put : Put) where
   abbrev pub PutHappens : Start → Type 0
   PutHappens start = IsStartFor offset start × (put.transactions ≡ length (put_transactions start n offset bytes)) × (put.bytes ≡ min (64512 * put.transactions) (length bytes))
       × HappensOn G device (AreNewEntries (Unit {0}) (put_transactions start n offset bytes))
 
   pub put_happens : PutsOn G device n offset bytes put (Ok tt) → (start : Start) × PutHappens start
-  put_happens o = by (start_of offset o.does.found) refl o.does.puts
-    where
-      -- there was room for a put that ended well
-      with_room : (lacks : Bool) (start : Start) (old : Handle Dev G) → PutsIfRoom lacks start n offset bytes put (Ok tt) old o.does.last → PutsFrom start n offset bytes put (Ok tt) old o.does.last
-      with_room false start old p = p
-      with_room true start old (none, nothing, is, same) = absurd (let no_way : Ok tt ≡ Err NoSpace = is in cc)
-
-      by : (s : Result Start PoolError) → start_of offset o.does.found ≡ s → PutsAsFound s o.does.found n offset bytes put (Ok tt) o.does.looked o.does.last → (start : Start) × PutHappens start
-      by (Err e) is p = absurd (let no_way : Ok tt ≡ Err e = p.2 in cc)
-      by (Ok start) is r =
-          let p = with_room (lacks_room start offset bytes o.does.found r.status.available) start r.asked r.puts in
-          let all : List (List Op) = put_transactions start n offset bytes in
-          let w = all_stand all put r.asked p.done o.does.last p.made p.makes p.syncs in (
-            start,
-            (
-              may_start offset o.does.found start is,
-              w.0,
-              p.size,
-              record {
-                pool = o.pool;
-                opens = o.opens;
-                first = o.does.first;
-                is_new = o.does.is_new;
-                last = o.does.last;
-                sees = entered_since (Unit {0}) all o.does.first r.asked (state_seen o.does.last) (along_on o.does.first o.does.looked r.asked (along_made o.does.looks) (along_made r.asks)) w.1;
-              },
-            ),
-          )
+  put_happens o =
+      let p = put_enters n offset bytes put o.does.first o.does.last o.does.did in (
+        p.0,
+        (
+          p.1.0,
+          p.1.1,
+          p.1.2,
+          record { pool = o.pool; opens = o.opens; first = o.does.first; only = o.does.only; last = o.does.last; sees = p.1.3 },
+        ),
+      )
 
 -- So it is of one transaction that was committed, and synced after.
 module _ {Dev : Type 0} {G : Ghosts Dev} (ops : List Op) where
@@ -295,7 +276,7 @@ module _ {Dev : Type 0} (G : Ghosts Dev) (device : Dev) (n : ObjectId) where
         pool = o.pool;
         opens = o.opens;
         first = r.first;
-        is_new = r.is_new;
+        only = r.only;
         last = r.last;
         sees = one_and_synced (Remove n ∷ []) r.count r.made r.first r.done r.last r.makes r.syncs;
       }

@@ -1,4 +1,7 @@
 pub mod Committed
+mod Endings
+mod LeftClients
+mod LeftContents
 pub mod Pieces
 pub mod PutBytes
 mod PutClients

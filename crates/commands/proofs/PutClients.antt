@@ -37,7 +37,7 @@ one_entry G device ops P so h = record {
   pool = h.pool;
   opens = h.opens;
   first = h.first;
-  is_new = h.is_new;
+  only = h.only;
   last = h.last;
   sees = ∥∥₁_map {B = IsOneEntry P (state_seen h.first) (state_seen h.last)} h.sees (λ x. (x.0, x.1, x.2, x.3, subst P (sym x.4) so, x.5 tt));
 }

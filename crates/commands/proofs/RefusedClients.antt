@@ -18,7 +18,8 @@ use Rattle.base.specs.steps.Runs.{reply_of}
 use Rattle.device_model.specs.declared.device.SectorDevice.{Ghosts}
 use Rattle.import_replay.specs.ImportRefusals.{IsImportRefusal}
 use Rattle.pool_threads.specs.Answers.{Makes}
-use Rattle.pool_threads.specs.Handles.{IsNewHandle, LeavesSame}
+use Rattle.pool_threads.specs.Handles.{LeavesSame}
+use Rattle.closed_pools.specs.LeftDevices.{IsOnlyHandle}
 use Rattle.pool_threads.specs.Transacts.{TransactsOrLacks}
 use Rattle.pool_threads.specs.Waits.{SyncsPool}
 use Rattle.pool_threads.specs.declared.handle.Handle.{Handle}
@@ -73,40 +74,40 @@ module _ {Dev : Type 0} {G : Ghosts Dev} (e : PoolError) where
   abbrev IsToldFew : Handle Dev G → Handle Dev G → Type 0
   IsToldFew old new = (s : Status) × Makes step.Status (reply.Status s) old new × (s.available < 4) × (e ≡ NoSpace)
 
-  -- a handle was refused the length, the one transaction, or the sync, or it was told so
+  -- the only handle was refused the length, the one transaction, or the sync, or it was told so
   abbrev IsPutRefused : Shared Dev G → Type 0
-  IsPutRefused p = (first looked done last : Handle Dev G) × IsNewHandle p first × (Makes (step.Length seven) (reply.Refused e) first looked
+  IsPutRefused p = (first looked done last : Handle Dev G) × IsOnlyHandle p first × (Makes (step.Length seven) (reply.Refused e) first looked
       ⊎ (((ops : List Op) × TransactsOrLacks command_owner ops (Err e) looked done × PutsTwo ops) ⊎ (SyncsPool (Err e) done last ⊎ IsToldFew looked done)))
 
   put_refused : (p : Shared Dev G) (put : Put) → PutsInto p seven None two put (Err e) → IsPutRefused p
-  put_refused p put i = by (start_of None i.found) refl i.puts
+  put_refused p put i = by (start_of None i.did.found) refl i.did.puts
     where
-      length_refused : (f : Result ℕ PoolError) (other : PoolError) → start_of None f ≡ Err other → Makes (step.Length seven) (reply_of (λ count. reply.Length count) f) i.first i.looked → Makes (step.Length seven) (reply.Refused other) i.first i.looked
+      length_refused : (f : Result ℕ PoolError) (other : PoolError) → start_of None f ≡ Err other → Makes (step.Length seven) (reply_of (λ count. reply.Length count) f) i.first i.did.looked → Makes (step.Length seven) (reply.Refused other) i.first i.did.looked
       length_refused (Ok count) other is makes = absurd (let no_way : Ok Empties ≡ Err other = is in cc)
       length_refused (Err NoObject) other is makes = absurd (let no_way : Ok Creates ≡ Err other = is in cc)
-      length_refused (Err x) other is makes = subst (λ (y : PoolError). Makes (step.Length seven) (reply.Refused y) i.first i.looked) (same_error Start (Err x) x other refl is) makes
+      length_refused (Err x) other is makes = subst (λ (y : PoolError). Makes (step.Length seven) (reply.Refused y) i.first i.did.looked) (same_error Start (Err x) x other refl is) makes
 
       made_or_synced : (ops : List Op) (asked done : Handle Dev G) → PutsTwo ops → TransactsOrLacks command_owner ops (Err e) asked done ⊎ SyncsPool (Err e) done i.last → IsPutRefused p
-      made_or_synced ops asked done so (inl refused) = (i.first, asked, done, i.last, i.is_new, inr (inl (ops, refused, so)))
-      made_or_synced ops asked done so (inr syncs) = (i.first, asked, done, i.last, i.is_new, inr (inr (inl syncs)))
+      made_or_synced ops asked done so (inl refused) = (i.first, asked, done, i.last, i.only, inr (inl (ops, refused, so)))
+      made_or_synced ops asked done so (inr syncs) = (i.first, asked, done, i.last, i.only, inr (inr (inl syncs)))
 
       by_room : (start : Start) (ops : List Op) (status : Status) (asked : Handle Dev G) (lacks : Bool) → start ≢ Keeps → PutsTwo ops → put_transactions start seven None two ≡ ops ∷ []
-          → Makes step.Status (reply.Status status) i.looked asked → lacks_room start None two i.found status.available ≡ lacks → PutsIfRoom lacks start seven None two put (Err e) asked i.last → IsPutRefused p
+          → Makes step.Status (reply.Status status) i.did.looked asked → lacks_room start None two i.did.found status.available ≡ lacks → PutsIfRoom lacks start seven None two put (Err e) asked i.last → IsPutRefused p
       by_room start ops status asked false other so are asks is q =
           made_or_synced ops asked q.done so (one_refused ops put put.transactions q.made asked q.done i.last refl (subst (λ (all : List (List Op)). MakesFirst all put.transactions q.made asked q.done) are q.makes) q.syncs)
       by_room start ops status asked true other so are asks is (none, nothing, told, same) =
-          (i.first, i.looked, asked, i.last, i.is_new, inr (inr (inr (status, asks, few_available start i.found status.available other is, same_error (Unit {0}) (Err e) e NoSpace refl told))))
+          (i.first, i.did.looked, asked, i.last, i.only, inr (inr (inr (status, asks, few_available start i.did.found status.available other is, same_error (Unit {0}) (Err e) e NoSpace refl told))))
 
-      by : (s : Result Start PoolError) → start_of None i.found ≡ s → PutsAsFound s i.found seven None two put (Err e) i.looked i.last → IsPutRefused p
+      by : (s : Result Start PoolError) → start_of None i.did.found ≡ s → PutsAsFound s i.did.found seven None two put (Err e) i.did.looked i.last → IsPutRefused p
       by (Err other) is (none, nothing, told, same) =
-          (i.first, i.looked, i.looked, i.last, i.is_new, inl (subst (λ (x : PoolError). Makes (step.Length seven) (reply.Refused x) i.first i.looked) (same_error (Unit {0}) (Err e) other e told refl) (length_refused i.found other is i.looks)))
-      by (Ok Creates) is r = by_room Creates (Create seven ∷ Write seven 0 two ∷ []) r.status r.asked (lacks_room Creates None two i.found r.status.available) (may_start None i.found Creates is) (inl refl) refl r.asks refl r.puts
-      by (Ok Empties) is r = by_room Empties (SetLength seven 0 ∷ Write seven 0 two ∷ []) r.status r.asked (lacks_room Empties None two i.found r.status.available) (may_start None i.found Empties is) (inr refl) refl r.asks refl r.puts
-      by (Ok Keeps) is r = absurd (may_start None i.found Keeps is refl)
+          (i.first, i.did.looked, i.did.looked, i.last, i.only, inl (subst (λ (x : PoolError). Makes (step.Length seven) (reply.Refused x) i.first i.did.looked) (same_error (Unit {0}) (Err e) other e told refl) (length_refused i.did.found other is i.did.looks)))
+      by (Ok Creates) is r = by_room Creates (Create seven ∷ Write seven 0 two ∷ []) r.status r.asked (lacks_room Creates None two i.did.found r.status.available) (may_start None i.did.found Creates is) (inl refl) refl r.asks refl r.puts
+      by (Ok Empties) is r = by_room Empties (SetLength seven 0 ∷ Write seven 0 two ∷ []) r.status r.asked (lacks_room Empties None two i.did.found r.status.available) (may_start None i.did.found Empties is) (inr refl) refl r.asks refl r.puts
+      by (Ok Keeps) is r = absurd (may_start None i.did.found Keeps is refl)
 
-  -- a handle was refused the one transaction, or the sync after it
+  -- the only handle was refused the one transaction, or the sync after it
   abbrev IsRemovalRefused : Shared Dev G → Type 0
-  IsRemovalRefused p = (first done last : Handle Dev G) × IsNewHandle p first × (TransactsOrLacks command_owner (Remove seven ∷ []) (Err e) first done
+  IsRemovalRefused p = (first done last : Handle Dev G) × IsOnlyHandle p first × (TransactsOrLacks command_owner (Remove seven ∷ []) (Err e) first done
       ⊎ ((r : Receipt) × TransactsOrLacks command_owner (Remove seven ∷ []) (Ok r) first done × SyncsPool (Err e) done last))
 
   removed_or_refused : (p : Shared Dev G) → RemovesFrom p seven (Err e) → IsRemovalRefused p
@@ -115,10 +116,10 @@ module _ {Dev : Type 0} {G : Ghosts Dev} (e : PoolError) where
       by : (count : ℕ) (made : Result (Unit {0}) PoolError) → MakesFirst ((Remove seven ∷ []) ∷ []) count made f.first f.done → SyncsIfMade made (Err e) f.done f.last → IsRemovalRefused p
       by zero (Ok done) (other, is, refused) syncs = absurd (let no_way : Ok done ≡ Err other = is in cc)
       by zero (Err made) (other, is, refused) (told, same) =
-          (f.first, f.done, f.last, f.is_new, inl (subst (λ (x : PoolError). TransactsOrLacks command_owner (Remove seven ∷ []) (Err x) f.first f.done) (same_error (Unit {0}) (Err made) other e is (sym told)) refused))
+          (f.first, f.done, f.last, f.only, inl (subst (λ (x : PoolError). TransactsOrLacks command_owner (Remove seven ∷ []) (Err x) f.first f.done) (same_error (Unit {0}) (Err made) other e is (sym told)) refused))
       by (suc count) (Err made) (r, next, one, (none, is, same)) syncs = absurd (let no_way : Err made ≡ Ok tt = is in cc)
       by (suc count) (Ok done) (r, next, one, (none, is, same)) (synced, syncs, told) =
-          (f.first, f.done, f.last, f.is_new, inr (r, subst (λ (h : Handle Dev G). TransactsOrLacks command_owner (Remove seven ∷ []) (Ok r) f.first h) (sym same) one, sync_refused f.done f.last synced told syncs))
+          (f.first, f.done, f.last, f.only, inr (r, subst (λ (h : Handle Dev G). TransactsOrLacks command_owner (Remove seven ∷ []) (Ok r) f.first h) (sym same) one, sync_refused f.done f.last synced told syncs))
 
 module _ {Dev : Type 0} (G : Ghosts Dev) (device : Dev) (moment : ℕ) where
   -- the device came back from an import that was refused so

@@ -21,12 +21,14 @@ use Rattle.base.specs.steps.Steps.{State}
 use Rattle.device_model.specs.declared.device.SectorDevice.{Ghosts}
 use Rattle.import_replay.specs.ImportRefusals.{IsImportRefusal}
 use Rattle.pool_threads.specs.declared.handle.Handle.{Handle}
+use Rattle.pool_threads.specs.declared.handle.LastSeen.{LastSeen}
 use Rattle.pool_threads.specs.declared.shared.Shared.{Shared}
 use Rattle.pool_threads.specs.Answers.{Makes, Sees}
-use Rattle.pool_threads.specs.Handles.{IsLeftByOpen, IsNewHandle, LeavesSame, OpensBehind, opening_view}
+use Rattle.pool_threads.specs.Handles.{IsLeftBehind, IsLeftByOpen, LeavesSame, OpensBehind, opening_view}
 use Rattle.pool_threads.specs.LongWrites.{piece_size}
 use Rattle.pool_threads.specs.Transacts.{TransactsOrLacks}
 use Rattle.pool_threads.specs.Waits.{SyncsPool}
+use Rattle.closed_pools.specs.LeftDevices.{IsOnlyHandle}
 use Rattle.read_commands.specs.Failures.{IsFailureFor}
 use Rattle.commands.specs.PutRoom.{lacks_room}
 use Rattle.commands.specs.Puts.{bad_number_of, is_target, put_line, put_transactions, start_of}
@@ -101,33 +103,45 @@ module _ {Dev : Type 0} {G : Ghosts Dev} where
   PutsAsFound (Ok start) found n offset bytes put result old new = PutsByRoom start found n offset bytes put result old new
   PutsAsFound (Err e) found n offset bytes put result old new = (put.transactions ≡ 0) × (put.bytes ≡ 0) × (result ≡ Err e) × (new ≡ old)
 
-  -- A new handle of this pool looked whether the object is there, and how many blocks are available. Then it put the
-  -- bytes, and synced the pool.
-  pub record PutsInto (p : Shared Dev G) (n : ObjectId) (offset : Option ℕ) (bytes : List ℕ) (put : Put) (result : Result (Unit {0}) PoolError) : Type 0 where
-    pub first : Handle Dev G
-    pub is_new : IsNewHandle p first
+  -- The handle looked whether the object is there, and how many blocks are available. Then it put the bytes, and synced
+  -- the pool.
+  pub record PutsBy (n : ObjectId) (offset : Option ℕ) (bytes : List ℕ) (put : Put) (result : Result (Unit {0}) PoolError) (first last : Handle Dev G) : Type 0 where
     pub found : Result ℕ PoolError
     pub looked : Handle Dev G
     pub looks : Makes (step.Length n) (reply_of (λ count. reply.Length count) found) first looked
-    pub last : Handle Dev G
     pub puts : PutsAsFound (start_of offset found) found n offset bytes put result looked last
+
+  -- The only handle of this pool did so.
+  pub record PutsInto (p : Shared Dev G) (n : ObjectId) (offset : Option ℕ) (bytes : List ℕ) (put : Put) (result : Result (Unit {0}) PoolError) : Type 0 where
+    pub first : Handle Dev G
+    pub only : IsOnlyHandle p first
+    pub last : Handle Dev G
+    pub did : PutsBy n offset bytes put result first last
+
+  -- and this is what that handle had seen as it left
+  abbrev pub PutsAndLeaves : Shared Dev G → ObjectId → Option ℕ → List ℕ → Put → Result (Unit {0}) PoolError → LastSeen Dev G → Type 0
+  PutsAndLeaves p n offset bytes put result left = (puts : PutsInto p n offset bytes put result) × IsLeftBehind puts.last left
 
   -- If the transaction was committed the handle synced the pool. Else it did no more.
   abbrev pub SyncsIfMade : Result (Unit {0}) PoolError → Result (Unit {0}) PoolError → Handle Dev G → Handle Dev G → Type 0
   SyncsIfMade (Ok done) result old new = (synced : Result Group PoolError) × SyncsPool synced old new × (result ≡ result_after (Ok tt) synced)
   SyncsIfMade (Err e) result old new = (result ≡ Err e) × (new ≡ old)
 
-  -- A new handle of this pool made one transaction that removes the object, and synced the pool after it. It did no
+  -- The only handle of this pool made one transaction that removes the object, and synced the pool after it. It did no
   -- more, and the first refusal is the result.
   pub record RemovesFrom (p : Shared Dev G) (n : ObjectId) (result : Result (Unit {0}) PoolError) : Type 0 where
     pub first : Handle Dev G
-    pub is_new : IsNewHandle p first
+    pub only : IsOnlyHandle p first
     pub count : ℕ
     pub made : Result (Unit {0}) PoolError
     pub done : Handle Dev G
     pub makes : MakesFirst ((Remove n ∷ []) ∷ []) count made first done
     pub last : Handle Dev G
     pub syncs : SyncsIfMade made result done last
+
+  -- and this is what that handle had seen as it left
+  abbrev pub RemovesAndLeaves : Shared Dev G → ObjectId → Result (Unit {0}) PoolError → LastSeen Dev G → Type 0
+  RemovesAndLeaves p n result left = (removes : RemovesFrom p n result) × IsLeftBehind removes.last left
 
 module _ {Dev : Type 0} (G : Ghosts Dev) where
   -- The pool was opened that this device holds, and this is so of it.
@@ -136,12 +150,12 @@ module _ {Dev : Type 0} (G : Ghosts Dev) where
     pub opens : OpensBehind (IsTrue G.keeps_model) (G.disk device) default_dirty_max (opening_view pool)
     pub does : P pool
 
-  -- So it is of the states that a new handle of such a pool had seen first and has seen last.
+  -- So it is of the states that the only handle of such a pool had seen first and has seen last.
   pub record HappensOn (device : Dev) (P : State → State → Type 0) : Type 0 where
     pub pool : Shared Dev G
     pub opens : OpensBehind (IsTrue G.keeps_model) (G.disk device) default_dirty_max (opening_view pool)
     pub first : Handle Dev G
-    pub is_new : IsNewHandle pool first
+    pub only : IsOnlyHandle pool first
     pub last : Handle Dev G
     pub sees : Sees P first last
 

@@ -7,23 +7,27 @@
 //! 3. A put that can't find the blocks that it needs is refused before the first piece (`put_room.rt`).
 
 ghost use Rattle.std.specs.Io.KnownBytes.{Appends};
-ghost use Rattle.std.specs.Prelude.{◌≡◌, ◌≢◌, ◌≤◌, ◌<◌, ◌+◌, ◌*◌, ◌/◌, ◌^◌, ◌∷◌, [], false, true, length, min, take, Err, IfErr, IfOk, IfSome, IsErr};
+ghost use Rattle.std.specs.Prelude.{◌≡◌, ◌≢◌, ◌≤◌, ◌<◌, ◌+◌, ◌*◌, ◌/◌, ◌^◌, ◌∷◌, [], false, true, length, min, take, Err, IfErr, IfOk, IfSome, IsErr, IsOk};
 ghost use Rattle.base.specs.declared.operation.Op.TheVariants.{Remove};
 ghost use Rattle.base.specs.formats.Limits.{max_length};
-ghost use Rattle.commands.specs.Committed.{MakesFirst, PutsAll, PutsAndPrints, PutsInto, PutsOrFails, RefusesPut, RefusesRemoval, RemovesFrom, RemovesOn, RemovesOrFails, command_owner, nothing_put, result_after};
-ghost use Rattle.commands.specs.Puts.{bad_number_of, first_byte, is_target, piece_ops, put_transactions, removed_line, rest_transactions, start_of};
+ghost use Rattle.closed_pools.specs.LeftDevices.{HoldsContents, IsOnlyHandle, StillHolds};
+ghost use Rattle.commands.specs.Committed.{MakesFirst, PutsAll, PutsAndLeaves, PutsAndPrints, PutsBy, PutsOrFails, RefusesPut, RefusesRemoval, RemovesAndLeaves, RemovesOn, RemovesOrFails, command_owner, nothing_put, result_after};
+ghost use Rattle.commands.specs.LeftContents.{HasPut, HasRemoved, KeepsOthers, LeavesDevice};
+ghost use Rattle.commands.specs.Puts.{bad_number_of, first_byte, is_target, piece_ops, put_line, put_transactions, removed_line, rest_transactions, start_of};
 ghost use Rattle.pool_threads.specs.LongWrites.{piece_size};
-ghost use Rattle.pool_threads.specs.Handles.{shared_of};
+ghost use Rattle.pool_threads.specs.Handles.{IsFirstSeen, kin_left, owned_of};
 ghost use Rattle.pool_threads.specs.Transacts.{TransactsOrLacks};
+ghost use Rattle.read_commands.specs.Failures.{failure_status};
 
 use crate::put_room::lacks_room;
 use base::{
     Bytes, DEFAULT_DIRTY_MAX, Group, MAX_LENGTH, OBJECT_COUNT, ObjectId, Op, Ops, Owner, PoolError,
     Receipt,
 };
+use closed_pools::{close_alone, open_alone};
 use command_arguments::{PutArguments, RemoveArguments, Verbosity};
 use device_model::{FileRefusal, SectorDevice};
-use pool_threads::{Handle, PIECE_SIZE, Pool};
+use pool_threads::{Handle, LastSeen, OwnedPool, PIECE_SIZE};
 use read_commands::{BadNumber, Failure, NotesRefusals, report_failure};
 use std::alloc::{AllocError, Global};
 use std::fmt;
@@ -149,15 +153,77 @@ pub fn run_put<R: Wait + AllocGlobal, D: SectorDevice + NotesRefusals + Drop, W:
             return report_failure(failure, STANDARD_INPUT, verbosity, errors);
         }
     };
-    let (put, end) = put_bytes(rt, arguments, &input, opened);
+    match opened {
+        Ok(device) => {
+            let (status, _) = put_on(rt, arguments, verbosity, &input, device, out, errors);
+            status
+        }
+        Err(cause) => report_failure(Failure::Unusable(cause), arguments.file, verbosity, errors),
+    }
+}
+
+/// Writes bytes into an object of the pool on a device as `run_put` does. It returns the exit status and the device, with
+/// the pool closed.
+///
+/// If the status is not 1, an import finds the bytes in the object, whatever a crash leaves of the device then, and all
+/// else as it was. If it is 1, nothing is lost that was durable, and no other object is changed.
+pub fn put_on<R: Wait + AllocGlobal, D: SectorDevice + NotesRefusals + Drop, W: Write, E: Write>(
+    rt: &R,
+    arguments: PutArguments<'_>,
+    verbosity: Verbosity,
+    bytes: &[u8],
+    device: D,
+    out: &mut W,
+    errors: &mut E,
+) -> (u8, D)
+    ensures target { is_target arguments.entry.object arguments.entry.offset bytes.now ≡ false
+        → result.0 ≡ 1 }
+    ensures put { result.0 ≡ 0 → PutsAndPrints D.SectorDevice device
+        (record { 0 = arguments.entry.object }) arguments.entry.offset bytes.now
+        (W.contents out.old) (W.contents out.new) }
+    ensures refused { result.0 ≡ 1 → RefusesPut D.SectorDevice device arguments.entry.moment
+        (record { 0 = arguments.entry.object }) arguments.entry.offset bytes.now }
+    ensures unwritten { result.0 ≡ 3 → PutsAll D.SectorDevice device
+        (record { 0 = arguments.entry.object }) arguments.entry.offset bytes.now }
+    ensures durable { result.0 ≢ 1 → HoldsContents D.SectorDevice
+        (HasPut (record { 0 = arguments.entry.object }) arguments.entry.offset bytes.now)
+        device result.1 }
+    ensures still_held { result.0 ≡ 1 → StillHolds D.SectorDevice
+        (KeepsOthers (record { 0 = arguments.entry.object })) device result.1 }
+    ensures unprinted { result.0 ≡ 1 → W.contents out.new ≡ W.contents out.old }
+    ensures range { result.0 ≤ 3 }
+    ensures no_usage { result.0 ≢ 2 }
+{
+    let (put, end, device) = put_bytes(rt, arguments, bytes, device);
+    let status = report_put(&put, end, arguments.file, verbosity, out, errors);
+    (status, device)
+}
+
+// Writes how many bytes were put, or reports why they were not. Returns the exit status.
+fn report_put<W: Write, E: Write>(
+    put: &Put,
+    end: Result<(), Failure>,
+    file: &str,
+    verbosity: Verbosity,
+    out: &mut W,
+    errors: &mut E,
+) -> u8
+    ensures printed { result ≡ 0 → Appends (W.contents out.old) (W.contents out.new)
+        (put_line put.now.bytes put.now.transactions) }
+    ensures done { IsOk end → result ≢ 1 }
+    ensures failed { IfErr end (λ failure. result ≡ failure_status failure) }
+    ensures unprinted { IsErr end → W.contents out.new ≡ W.contents out.old }
+    ensures range { result ≤ 3 }
+    ensures no_usage { result ≢ 2 }
+{
     match end {
         Ok(()) => match writeln!(out, "put {put}") {
             Ok(()) => 0,
-            Err(_) => report_failure(Failure::Unwritten, arguments.file, verbosity, errors),
+            Err(_) => report_failure(Failure::Unwritten, file, verbosity, errors),
         },
         Err(failure) => {
-            let status = report_failure(failure, arguments.file, verbosity, errors);
-            report_committed(&put, errors);
+            let status = report_failure(failure, file, verbosity, errors);
+            report_committed(put, errors);
             status
         }
     }
@@ -177,44 +243,59 @@ fn put_bytes<R: Wait + AllocGlobal, D: SectorDevice + NotesRefusals + Drop>(
     rt: &R,
     arguments: PutArguments<'_>,
     bytes: &[u8],
-    opened: Result<D, FileRefusal>,
-) -> (Put, Result<(), Failure>)
-    ensures unusable { IfErr opened (λ cause. (result.0 ≡ nothing_put)
-        × (result.1 ≡ Err (Failure.Unusable cause))) }
-    ensures target { IfOk opened (λ _. is_target arguments.entry.object arguments.entry.offset
-        bytes.now ≡ false → result.1 ≡ Err (Failure.OutOfRange
-        (bad_number_of arguments.entry.object arguments.entry.offset bytes.now))) }
-    ensures put { IfOk opened (λ device. PutsOrFails D.SectorDevice device
-        arguments.entry.moment (record { 0 = arguments.entry.object }) arguments.entry.offset
-        bytes.now result.0 result.1) }
+    device: D,
+) -> (Put, Result<(), Failure>, D)
+    ensures target { is_target arguments.entry.object arguments.entry.offset bytes.now ≡ false
+        → IsErr result.1 }
+    ensures status { IfErr result.1 (λ failure. failure_status failure ≡ 1) }
+    ensures put { PutsOrFails D.SectorDevice device arguments.entry.moment
+        (record { 0 = arguments.entry.object }) arguments.entry.offset bytes.now
+        result.0 result.1 }
+    ensures left { LeavesDevice D.SectorDevice
+        (HasPut (record { 0 = arguments.entry.object }) arguments.entry.offset bytes.now)
+        (KeepsOthers (record { 0 = arguments.entry.object })) device result.1 result.2 }
 {
-    let device = match opened {
-        Ok(device) => device,
-        Err(cause) => return (Put::NOTHING, Err(Failure::Unusable(cause))),
-    };
     if !is_target(arguments.object, arguments.offset, bytes) {
         let number = bad_number_of(arguments.object, arguments.offset, bytes);
-        return (Put::NOTHING, Err(Failure::OutOfRange(number)));
+        return (Put::NOTHING, Err(Failure::OutOfRange(number)), device);
     }
     let alloc = rt.alloc();
-    let pool = match Pool::open(alloc, device, DEFAULT_DIRTY_MAX, arguments.moment) {
-        Ok(pool) => pool,
+    let (pool, first) = match open_alone(alloc, device, DEFAULT_DIRTY_MAX, arguments.moment) {
+        Ok(opened) => opened,
         Err((refusal, device)) => {
-            return (Put::NOTHING, Err(Failure::of_pool(refusal, &device)));
+            let failure = Failure::of_pool(refusal, &device);
+            return (Put::NOTHING, Err(failure), device);
         }
     };
     let target = Target {
         object: ObjectId(arguments.object),
         offset: arguments.offset,
     };
-    let (put, end) = put_and_sync(rt, alloc, &pool, target, bytes);
+    let (put, end, last) = put_and_leave(rt, alloc, &pool, first, target, bytes);
+    let device = close_alone(pool, last);
     match end {
-        Ok(()) => (put, Ok(())),
-        Err(refusal) => (
-            put,
-            Err(Failure::of_closed(refusal, &pool.close().map(|state| state.into_device()))),
-        ),
+        Ok(()) => (put, Ok(()), device),
+        Err(refusal) => (put, Err(Failure::of_pool(refusal, &device)), device),
     }
+}
+
+// Puts bytes into an object by the pool's first handle, and syncs the pool. What the handle has seen comes back.
+fn put_and_leave<R: Wait, D: SectorDevice>(
+    rt: &R,
+    alloc: Global,
+    pool: &OwnedPool<D>,
+    first: LastSeen<D>,
+    target: Target,
+    bytes: &[u8],
+) -> (Put, Result<(), PoolError>, LastSeen<D>)
+    requires fits { is_target target.object.0 target.offset bytes.now ≡ true }
+    requires first { IsFirstSeen (owned_of pool.now) first }
+    ensures { PutsAndLeaves (owned_of pool.entry.now) target.object target.offset bytes.now
+        result.0 result.1 result.2 }
+{
+    let mut handle = pool.handle_after(first);
+    let (put, end) = put_and_sync(rt, alloc, &mut handle, target, bytes);
+    (put, end, handle.leave())
 }
 
 /// Whether an object of this number may have these bytes at this offset, or at its start if none is given.
@@ -282,20 +363,19 @@ impl Start {
     }
 }
 
-/// Puts bytes into an object by a new handle of the pool, and syncs the pool, also after a refusal. It returns what was
+/// Puts bytes into an object by a handle of the pool, and syncs the pool, also after a refusal. It returns what was
 /// committed, and the first refusal. The object is made if it isn't there. Without room for all bytes it puts none.
 pub fn put_and_sync<R: Wait, D: SectorDevice>(
     rt: &R,
     alloc: Global,
-    pool: &Pool<D>,
+    handle: &mut Handle<'_, D>,
     target: Target,
     bytes: &[u8],
 ) -> (Put, Result<(), PoolError>)
     requires { is_target target.object.0 target.offset bytes.now ≡ true }
-    ensures { PutsInto (shared_of pool.entry.now) target.object target.offset bytes.now
-        result.0 result.1 }
+    ensures { PutsBy target.object target.offset bytes.now result.0 result.1 handle.old
+        handle.new }
 {
-    let mut handle = pool.handle();
     let found = handle.length(rt, target.object);
     let start = match start_of(target.offset, found) {
         Ok(start) => start,
@@ -305,7 +385,7 @@ pub fn put_and_sync<R: Wait, D: SectorDevice>(
     if lacks_room(start, target.offset, bytes, found, status.available) {
         return (Put::NOTHING, Err(PoolError::NoSpace));
     }
-    let (mut put, made) = put_pieces(rt, alloc, &mut handle, target, start, bytes);
+    let (mut put, made) = put_pieces(rt, alloc, handle, target, start, bytes);
     if put.transactions == 0 {
         return (put, made);
     }
@@ -461,7 +541,64 @@ pub fn run_remove<
     ensures range { result ≤ 3 }
     ensures no_usage { result ≢ 2 }
 {
-    match remove_object(rt, arguments, opened) {
+    match opened {
+        Ok(device) => {
+            let (status, _) = remove_on(rt, arguments, verbosity, device, out, errors);
+            status
+        }
+        Err(cause) => report_failure(Failure::Unusable(cause), arguments.file, verbosity, errors),
+    }
+}
+
+/// Removes an object of the pool on a device as `run_remove` does. It returns the exit status and the device, with the
+/// pool closed.
+///
+/// If the status is not 1, an import doesn't find the object, whatever a crash leaves of the device then, and finds all
+/// else as it was. If it is 1, nothing is lost that was durable, and no other object is changed.
+pub fn remove_on<R: Wait + AllocGlobal, D: SectorDevice + NotesRefusals + Drop, W: Write, E: Write>(
+    rt: &R,
+    arguments: RemoveArguments<'_>,
+    verbosity: Verbosity,
+    device: D,
+    out: &mut W,
+    errors: &mut E,
+) -> (u8, D)
+    ensures removed { result.0 ≢ 1
+        → RemovesOn D.SectorDevice device (record { 0 = arguments.entry.object }) }
+    ensures printed { result.0 ≡ 0 → Appends (W.contents out.old) (W.contents out.new)
+        (removed_line arguments.entry.object) }
+    ensures refused { result.0 ≡ 1 → RefusesRemoval D.SectorDevice device
+        arguments.entry.moment (record { 0 = arguments.entry.object }) }
+    ensures durable { result.0 ≢ 1 → HoldsContents D.SectorDevice
+        (HasRemoved (record { 0 = arguments.entry.object })) device result.1 }
+    ensures still_held { result.0 ≡ 1 → StillHolds D.SectorDevice
+        (KeepsOthers (record { 0 = arguments.entry.object })) device result.1 }
+    ensures unprinted { result.0 ≡ 1 → W.contents out.new ≡ W.contents out.old }
+    ensures range { result.0 ≤ 3 }
+    ensures no_usage { result.0 ≢ 2 }
+{
+    let (end, device) = remove_object(rt, arguments, device);
+    let status = report_removed(arguments, end, verbosity, out, errors);
+    (status, device)
+}
+
+// Writes which object was removed, or reports why it was not. Returns the exit status.
+fn report_removed<W: Write, E: Write>(
+    arguments: RemoveArguments<'_>,
+    end: Result<(), Failure>,
+    verbosity: Verbosity,
+    out: &mut W,
+    errors: &mut E,
+) -> u8
+    ensures printed { result ≡ 0 → Appends (W.contents out.old) (W.contents out.new)
+        (removed_line arguments.entry.object) }
+    ensures done { IsOk end → result ≢ 1 }
+    ensures failed { IfErr end (λ failure. result ≡ failure_status failure) }
+    ensures unprinted { IsErr end → W.contents out.new ≡ W.contents out.old }
+    ensures range { result ≤ 3 }
+    ensures no_usage { result ≢ 2 }
+{
+    match end {
         Ok(()) => match writeln!(out, "removed {}", arguments.object) {
             Ok(()) => 0,
             Err(_) => report_failure(Failure::Unwritten, arguments.file, verbosity, errors),
@@ -470,51 +607,55 @@ pub fn run_remove<
     }
 }
 
+// Removes an object of the pool on a device, and syncs it.
 fn remove_object<R: Wait + AllocGlobal, D: SectorDevice + NotesRefusals + Drop>(
     rt: &R,
     arguments: RemoveArguments<'_>,
-    opened: Result<D, FileRefusal>,
-) -> Result<(), Failure>
-    ensures unusable { IfErr opened (λ cause. result ≡ Err (Failure.Unusable cause)) }
-    ensures removed { IfOk opened (λ device. RemovesOrFails D.SectorDevice device
-        arguments.entry.moment (record { 0 = arguments.entry.object }) result) }
+    device: D,
+) -> (Result<(), Failure>, D)
+    ensures status { IfErr result.0 (λ failure. failure_status failure ≡ 1) }
+    ensures removed { RemovesOrFails D.SectorDevice device arguments.entry.moment
+        (record { 0 = arguments.entry.object }) result.0 }
+    ensures left { LeavesDevice D.SectorDevice
+        (HasRemoved (record { 0 = arguments.entry.object }))
+        (KeepsOthers (record { 0 = arguments.entry.object })) device result.0 result.1 }
 {
-    let device = match opened {
-        Ok(device) => device,
-        Err(cause) => return Err(Failure::Unusable(cause)),
-    };
     let alloc = rt.alloc();
-    let pool = match Pool::open(alloc, device, DEFAULT_DIRTY_MAX, arguments.moment) {
-        Ok(pool) => pool,
-        Err((refusal, device)) => return Err(Failure::of_pool(refusal, &device)),
+    let (pool, first) = match open_alone(alloc, device, DEFAULT_DIRTY_MAX, arguments.moment) {
+        Ok(opened) => opened,
+        Err((refusal, device)) => return (Err(Failure::of_pool(refusal, &device)), device),
     };
-    match remove_and_sync(rt, alloc, &pool, ObjectId(arguments.object)) {
-        Ok(()) => Ok(()),
+    let (end, last) = remove_and_leave(rt, alloc, &pool, first, ObjectId(arguments.object));
+    let device = close_alone(pool, last);
+    match end {
+        Ok(()) => (Ok(()), device),
         Err(refusal) => {
             let number = BadNumber::of_object(arguments.object);
-            Err(Failure::of_closed(
-                refusal,
-                &pool.close().map(|state| state.into_device()),
-            ).for_number(number))
+            let failure = Failure::of_pool(refusal, &device).for_number(number);
+            (Err(failure), device)
         }
     }
 }
 
-// Removes an object, and syncs the pool if that was committed. It returns the first refusal.
-fn remove_and_sync<R: Wait, D: SectorDevice>(
+// Removes an object by the pool's first handle, and syncs the pool if that was committed. It returns the first refusal,
+// and what the handle has seen.
+fn remove_and_leave<R: Wait, D: SectorDevice>(
     rt: &R,
     alloc: Global,
-    pool: &Pool<D>,
+    pool: &OwnedPool<D>,
+    first: LastSeen<D>,
     object: ObjectId,
-) -> Result<(), PoolError>
-    ensures { RemovesFrom (shared_of pool.entry.now) object result }
+) -> (Result<(), PoolError>, LastSeen<D>)
+    requires { IsFirstSeen (owned_of pool.now) first }
+    ensures { RemovesAndLeaves (owned_of pool.entry.now) object result.0 result.1 }
 {
-    let mut handle = pool.handle();
+    let mut handle = pool.handle_after(first);
     match remove(rt, alloc, &mut handle, object) {
         Ok(_) => {}
-        Err(refusal) => return Err(refusal),
+        Err(refusal) => return (Err(refusal), handle.leave()),
     }
-    first_refusal(Ok(()), handle.sync_pool(rt))
+    let end = first_refusal(Ok(()), handle.sync_pool(rt));
+    (end, handle.leave())
 }
 
 // Commits the removal of an object as one transaction.

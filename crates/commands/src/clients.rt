@@ -1,6 +1,7 @@
 //! What callers rely on: one function for each promise of this crate's calls, proved from the contract of the call
 //! alone. So it is refused as soon as that contract promises less.
 
+mod left_devices;
 mod objects;
 mod parts;
 mod refusals;

@@ -11,7 +11,7 @@ mod pool_files;
 mod put_room;
 mod replacing;
 
-pub use changes::{read_input, run_put, run_remove};
+pub use changes::{put_on, read_input, remove_on, run_put, run_remove};
 pub use laws::puts_leave_bytes;
 pub use pool_files::run_create;
 pub use replacing::{run_create_over, run_create_sized};

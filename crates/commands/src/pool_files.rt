@@ -4,15 +4,16 @@
 //! refused: a file is opened for a `NewPool`, which only these tests make.
 
 ghost use Rattle.std.specs.Io.KnownBytes.{Appends};
-ghost use Rattle.std.specs.Prelude.{◌≡◌, ◌≢◌, ◌≤◌, false, Err, IfErr, IfOk, OnOk};
+ghost use Rattle.std.specs.Prelude.{◌≡◌, ◌≢◌, ◌≤◌, false, IfErr, IfOk, OnOk};
 ghost use Rattle.base.specs.formats.Geometry.{block_count, is_geometry};
 ghost use Rattle.base.specs.formats.Names.{is_name};
+ghost use Rattle.commands.specs.NewPools.{CreatesOn};
 ghost use Rattle.import_replay.specs.CreateRefusals.{CanCreate};
 ghost use Rattle.read_commands.specs.Failures.{IsNewPoolRefusal, failure_status, sector_bytes};
 ghost use Rattle.read_commands.specs.PoolLines.{created_line};
 
 use base::{MAX_NAME, PoolError, PoolName};
-use command_arguments::{CreateArguments, Options};
+use command_arguments::{CreateArguments, Options, Verbosity};
 use device_model::{HeldFile, SectorDevice};
 use import_replay::create;
 use labels::{Geometry, LABEL_SIZE, MAX_SIZE, MIN_SIZE, SECTOR_SIZE};
@@ -54,36 +55,51 @@ where
             return report_refusal(refusal, &cause, options.verbosity, errors);
         }
     };
-    match create_pool(rt, &pool, arguments.name, options.wait, out) {
-        Ok(()) => 0,
-        Err(failure) => report_failure(failure, arguments.file, options.verbosity, errors),
+    match pool.file.create_within(rt, options.wait) {
+        Ok(device) => {
+            let (status, _) = create_on(&pool, arguments, options.verbosity, device, out, errors);
+            status
+        }
+        Err(cause) => {
+            let failure = Failure::Unusable(cause);
+            report_failure(failure, arguments.file, options.verbosity, errors)
+        }
     }
 }
 
-// Makes a pool, and writes this name of it with the number of its blocks.
-fn create_pool<R: Files + Wait, W: Write>(
-    rt: &R,
+/// Makes a pool on the device of its file, writes its line, and returns the exit status and the device.
+///
+/// If the status is not 1, the pool is on the device, whatever a crash leaves of it then.
+pub(crate) fn create_on<D: SectorDevice + NotesRefusals + Drop, W: Write, E: Write>(
     pool: &NewPool<'_>,
-    name: &str,
-    wait: u32,
+    arguments: CreateArguments<'_>,
+    verbosity: Verbosity,
+    device: D,
     out: &mut W,
-) -> Result<(), Failure>
-where
-    R::File: FileExt + HeldFile,
-    ensures created { OnOk result (Appends (W.contents out.old) (W.contents out.new)
-        (created_line name.now (block_count pool.now.geometry))) }
-    ensures unprinted { IfErr result (λ failure. failure_status failure ≡ 1
-        → W.contents out.new ≡ W.contents out.old) }
+    errors: &mut E,
+) -> (u8, D)
+    ensures created { result.0 ≡ 0 → Appends (W.contents out.old) (W.contents out.new)
+        (created_line arguments.entry.name.now (block_count pool.now.geometry)) }
+    ensures made { result.0 ≢ 1 → CreatesOn D.SectorDevice pool.now.name pool.now.guid
+        pool.now.moment device result.1 }
+    ensures unprinted { result.0 ≡ 1 → W.contents out.new ≡ W.contents out.old }
+    ensures range { result.0 ≤ 3 }
+    ensures no_usage { result.0 ≢ 2 }
 {
-    let device = pool
-        .file
-        .create_within(rt, wait)
-        .map_err(Failure::Unusable)?;
-    pool.make(device)?;
-    let blocks = pool.geometry.blocks();
+    let device = match pool.make(device) {
+        Ok(device) => device,
+        Err((failure, device)) => {
+            let status = report_failure(failure, arguments.file, verbosity, errors);
+            return (status, device);
+        }
+    };
+    let (name, blocks) = (arguments.name, pool.geometry.blocks());
     match writeln!(out, "created {name} {blocks} blocks") {
-        Ok(()) => Ok(()),
-        Err(_) => Err(Failure::Unwritten),
+        Ok(()) => (0, device),
+        Err(_) => {
+            let status = report_failure(Failure::Unwritten, arguments.file, verbosity, errors);
+            (status, device)
+        }
     }
 }
 
@@ -112,9 +128,9 @@ impl fmt::Display for RefusedPool<'_> {
     }
 }
 
-// A pool that is to be made, whose size and name were tested.
+/// A pool that is to be made, whose size and name were tested.
 #[derive(Drop)]
-struct NewPool<'a> {
+pub(crate) struct NewPool<'a> {
     // its size may end with a part of a sector
     file: NewFile<'a>,
     geometry: Geometry,
@@ -124,12 +140,14 @@ struct NewPool<'a> {
 }
 
 impl<'a> NewPool<'a> {
-    // The size is tested first, then the name.
-    fn new(arguments: CreateArguments<'a>) -> Result<Self, PoolError>
+    /// What was given for it. The size is tested first, then the name.
+    pub(crate) fn new(arguments: CreateArguments<'a>) -> Result<Self, PoolError>
         ensures tested { OnOk result
             (CanCreate (sector_bytes arguments.entry.size) arguments.entry.name.now) }
         ensures geometry { IfOk result
             (λ pool. pool.geometry ≡ sector_bytes arguments.entry.size) }
+        ensures given { IfOk result (λ pool. (pool.name ≡ arguments.entry.name.now)
+            × (pool.guid ≡ arguments.entry.guid) × (pool.moment ≡ arguments.entry.moment)) }
         ensures refused { IfErr result
             (IsNewPoolRefusal arguments.entry.size arguments.entry.name.now) }
     {
@@ -151,10 +169,14 @@ impl<'a> NewPool<'a> {
     }
 
     // Makes the pool on the file's device.
-    fn make<D: SectorDevice + NotesRefusals + Drop>(&self, device: D) -> Result<(), Failure> {
+    fn make<D: SectorDevice + NotesRefusals + Drop>(&self, device: D) -> Result<D, (Failure, D)>
+        ensures made { IfOk result (CreatesOn D.SectorDevice self.now.name self.now.guid
+            self.now.moment device) }
+        ensures refused { IfErr result (λ e. failure_status e.0 ≡ 1) }
+    {
         match create(device, self.name.as_slice(), self.guid, self.moment) {
-            Ok(_device) => Ok(()),
-            Err((refusal, device)) => Err(Failure::of_pool(refusal, &device)),
+            Ok(device) => Ok(device),
+            Err((refusal, device)) => Err((Failure::of_pool(refusal, &device), device)),
         }
     }
 }

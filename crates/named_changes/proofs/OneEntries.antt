@@ -13,12 +13,12 @@ use Rattle.base.specs.declared.operation.Op.TheVariants.{Create, Remove, SetLeng
 use Rattle.base.specs.history.History.{Entry}
 use Rattle.base.specs.steps.Seen.{IsKnownDurable}
 use Rattle.base.specs.steps.Steps.{State}
-use Rattle.commands.specs.Committed.{AreNewEntries, HappensOn, IsOpenedOn, PutsInto, SyncsAfter, command_owner}
+use Rattle.commands.specs.Committed.{AreNewEntries, SyncsAfter, command_owner}
 use Rattle.commands.specs.Puts.{IsStartFor, put_transactions}
 use Rattle.commands.specs.declared.changes.Put.{Put}
 use Rattle.commands.specs.declared.changes.Start.{Start}
 use Rattle.commands.specs.declared.changes.Start.TheVariants.{Creates, Empties, Keeps}
-use Rattle.commands.proofs.Committed.{all_stand, entered_since, one_and_synced, put_happens}
+use Rattle.commands.proofs.Committed.{all_stand, entered_since, one_and_synced, put_enters}
 use Rattle.device_model.specs.declared.device.SectorDevice.{Ghosts}
 use Rattle.durable_answers.proofs.Along.{along_looked}
 use Rattle.object_names.specs.Laws.{IsUnused}
@@ -39,6 +39,7 @@ use Rattle.named_changes.specs.NamedCommands.{PutsNamedAll, RemovesNamedAll}
 use Rattle.named_changes.specs.NamedOps.{naming_ops, naming_transactions, removal_ops, table_object, table_ops}
 use Rattle.named_changes.specs.NamedPuts.{PutsByTable, PutsNamed}
 use Rattle.named_changes.specs.NamedRemovals.{RemovesAsFound, RemovesByTable, is_there}
+use Rattle.named_changes.specs.NewHandles.{HappensByNew, PutsByNew}
 use Rattle.named_changes.specs.NewObjects.{FindsNew, MakesNamed, PutsAsNew}
 use Rattle.named_changes.specs.Refusals.{by_engine}
 use Rattle.named_changes.specs.TableReads.{ReadsTable}
@@ -55,7 +56,7 @@ IsOneEntry P before after = (ordinal : ℕ) × (e : Entry) × (n : ObjectId) × 
 one_entry : (P : ObjectId → List Op → Type 0) (ops : List Op) (n : ObjectId) → P n ops → (before after : State) → AreNewEntries (Unit {0}) (ops ∷ []) before after → IsOneEntry P before after
 one_entry P ops n so before after x = (x.0, x.1, n, x.2, x.3, subst (P n) (sym x.4) so, x.5 tt)
 
-happens : {Dev : Type 0} (G : Ghosts Dev) (device : Dev) (P : ObjectId → List Op → Type 0) (ops : List Op) (n : ObjectId) → P n ops → HappensOn G device (AreNewEntries (Unit {0}) (ops ∷ [])) → HappensOn G device (IsOneEntry P)
+happens : {Dev : Type 0} (G : Ghosts Dev) (device : Dev) (P : ObjectId → List Op → Type 0) (ops : List Op) (n : ObjectId) → P n ops → HappensByNew G device (AreNewEntries (Unit {0}) (ops ∷ [])) → HappensByNew G device (IsOneEntry P)
 happens G device P ops n so h = record {
   pool = h.pool;
   opens = h.opens;
@@ -90,18 +91,21 @@ module _ {Dev : Type 0} {G : Ghosts Dev} where
   finds_along table offset bytes new old now (inr f) = along_on old f.listed now (along_looked old f.listed f.lists.looked) (along_made f.finds.2.asks)
 
 module _ {Dev : Type 0} (G : Ghosts Dev) (device : Dev) where
-  -- two bytes that were put into an object that a table names
-  known : (n : ObjectId) (name : List ℕ) (put : Put) → IsOpenedOn G device (λ (p : Shared Dev G). PutsInto p n None two put (Ok tt)) → HappensOn G device (IsOneEntry (PutsTwo name))
-  known n name put o = let p = put_happens G device n None two put o in by p.0 p.1.0 p.1.3
-    where
-      by : (start : Start) → IsStartFor None start → HappensOn G device (AreNewEntries (Unit {0}) (put_transactions start n None two)) → HappensOn G device (IsOneEntry (PutsTwo name))
-      by Creates may h = happens G device (PutsTwo name) (Create n ∷ Write n 0 two ∷ []) n (inl refl) h
-      by Empties may h = happens G device (PutsTwo name) (SetLength n 0 ∷ Write n 0 two ∷ []) n (inr (inl refl)) h
-      by Keeps may h = absurd (may refl)
-
   module _ (pool : Shared Dev G) (opens : OpensBehind (IsTrue G.keeps_model) (G.disk device) 4194304 (opening_view pool)) (first : Handle Dev G) (is_new : IsNewHandle pool first) (looked : Handle Dev G) (along : GoesAlong first looked) where
+    -- two bytes that were put into an object that a table names
+    known : (n : ObjectId) (name : List ℕ) (put : Put) → PutsByNew pool n None two put (Ok tt) → HappensByNew G device (IsOneEntry (PutsTwo name))
+    known n name put k = let p = put_enters n None two put k.first k.last k.did in by p.0 p.1.0 p.1.3
+      where
+        entered : (ops : List Op) → ∥ AreNewEntries (Unit {0}) (ops ∷ []) (state_seen k.first) (state_seen k.last) ∥₁ → HappensByNew G device (AreNewEntries (Unit {0}) (ops ∷ []))
+        entered ops sees = record { pool = pool; opens = opens; first = k.first; is_new = k.is_new; last = k.last; sees = sees }
+
+        by : (start : Start) → IsStartFor None start → ∥ AreNewEntries (Unit {0}) (put_transactions start n None two) (state_seen k.first) (state_seen k.last) ∥₁ → HappensByNew G device (IsOneEntry (PutsTwo name))
+        by Creates may sees = happens G device (PutsTwo name) (Create n ∷ Write n 0 two ∷ []) n (inl refl) (entered (Create n ∷ Write n 0 two ∷ []) sees)
+        by Empties may sees = happens G device (PutsTwo name) (SetLength n 0 ∷ Write n 0 two ∷ []) n (inr (inl refl)) (entered (SetLength n 0 ∷ Write n 0 two ∷ []) sees)
+        by Keeps may sees = absurd (may refl)
+
     -- two bytes that were put into a new object
-    made_new : (table name : List ℕ) (new : NewObject) (put : Put) (asked last : Handle Dev G) → GoesAlong looked asked → MakesNamed table new name None two put (Ok tt) asked last → HappensOn G device (IsOneEntry (PutsTwo name))
+    made_new : (table name : List ℕ) (new : NewObject) (put : Put) (asked last : Handle Dev G) → GoesAlong looked asked → MakesNamed table new name None two put (Ok tt) asked last → HappensByNew G device (IsOneEntry (PutsTwo name))
     made_new table name new put asked last further m =
         let all : List (List Op) = naming_transactions new.has_table table new.object name None two in
         let syncs = subst (λ (r : Result (Unit {0}) PoolError). SyncsAfter put m.made r m.done last) (well m.end m.ends) m.syncs in
@@ -116,18 +120,18 @@ module _ {Dev : Type 0} (G : Ghosts Dev) (device : Dev) where
           sees = entered_since (Unit {0}) all first asked (state_seen last) (along_on first looked asked along further) stands.1;
         })
 
-    put_as_new : (table name : List ℕ) (new : Result NewObject NameRefusal) (put : Put) (asked last : Handle Dev G) → FindsNew table None two new looked asked → PutsAsNew table new name None two put (Ok tt) asked last → HappensOn G device (IsOneEntry (PutsTwo name))
+    put_as_new : (table name : List ℕ) (new : Result NewObject NameRefusal) (put : Put) (asked last : Handle Dev G) → FindsNew table None two new looked asked → PutsAsNew table new name None two put (Ok tt) asked last → HappensByNew G device (IsOneEntry (PutsTwo name))
     put_as_new table name (Ok new) put asked last finds m = made_new table name new put asked last (finds_along table None two new looked asked finds) m
     put_as_new table name (Err refusal) put asked last finds (none, is, same) = absurd (let no_way : Ok tt ≡ Err refusal = is in cc)
 
-    put_by : (table : Result (Option (List ℕ)) PoolError) (name : List ℕ) (put : Put) (last : Handle Dev G) → PutsByTable pool table name None two put (Ok tt) looked last → HappensOn G device (IsOneEntry (PutsTwo name))
+    put_by : (table : Result (Option (List ℕ)) PoolError) (name : List ℕ) (put : Put) (last : Handle Dev G) → PutsByTable pool table name None two put (Ok tt) looked last → HappensByNew G device (IsOneEntry (PutsTwo name))
     put_by (Ok (Some table)) name put last (inl (n, named, (end, into, is), same)) =
-        known n name put (record { pool = pool; opens = opens; does = subst (λ (r : Result (Unit {0}) PoolError). PutsInto pool n None two put r) (well end is) into })
+        known n name put (subst (λ (r : Result (Unit {0}) PoolError). PutsByNew pool n None two put r) (well end is) into)
     put_by (Ok (Some table)) name put last (inr (unknown, p)) = put_as_new table name p.new put p.found last p.finds p.puts
     put_by (Ok None) name put last (none, is, same) = absurd (let no_way : Ok tt ≡ Err _ = is in cc)
     put_by (Err e) name put last (none, is, same) = absurd (let no_way : Ok tt ≡ Err (Engine e) = is in cc)
 
-    removed_both : (there : Result Bool PoolError) (n : ObjectId) (asked last : Handle Dev G) → GoesAlong looked asked → RemovesAsFound there n (Ok tt) asked last → HappensOn G device (IsOneEntry RemovesOne)
+    removed_both : (there : Result Bool PoolError) (n : ObjectId) (asked last : Handle Dev G) → GoesAlong looked asked → RemovesAsFound there n (Ok tt) asked last → HappensByNew G device (IsOneEntry RemovesOne)
     removed_both (Err e) n asked last further (is, same) = absurd (let no_way : Ok tt ≡ Err e = is in cc)
     removed_both (Ok there) n asked last further r = happens G device RemovesOne (removal_ops there n) n (which there) (record {
       pool = pool;
@@ -142,19 +146,19 @@ module _ {Dev : Type 0} (G : Ghosts Dev) (device : Dev) where
         which true = inl refl
         which false = inr refl
 
-    removed_by : (table : Result (Option (List ℕ)) PoolError) (name : List ℕ) (n : ObjectId) (last : Handle Dev G) → RemovesByTable table name (Ok n) looked last → HappensOn G device (IsOneEntry RemovesOne)
+    removed_by : (table : Result (Option (List ℕ)) PoolError) (name : List ℕ) (n : ObjectId) (last : Handle Dev G) → RemovesByTable table name (Ok n) looked last → HappensByNew G device (IsOneEntry RemovesOne)
     removed_by (Ok (Some table)) name n last (inl (m, Ok done, named, r, is)) = removed_both (is_there r.found) m r.looked last (along_made r.looks) r.removes
     removed_by (Ok (Some table)) name n last (inl (m, Err e, named, r, is)) = absurd (let no_way : Ok n ≡ Err (Engine e) = is in cc)
     removed_by (Ok (Some table)) name n last (inr (unknown, (is, same))) = absurd (let no_way : Ok n ≡ Err _ = is in cc)
     removed_by (Ok None) name n last (is, same) = absurd (let no_way : Ok n ≡ Err _ = is in cc)
     removed_by (Err e) name n last (is, same) = absurd (let no_way : Ok n ≡ Err (Engine e) = is in cc)
 
-  pub two_named : (name bytes : List ℕ) → bytes ≡ two → PutsNamedAll G device name None bytes → HappensOn G device (IsOneEntry (PutsTwo name))
+  pub two_named : (name bytes : List ℕ) → bytes ≡ two → PutsNamedAll G device name None bytes → HappensByNew G device (IsOneEntry (PutsTwo name))
   two_named name bytes are (put, o) =
       let p = subst (λ (l : List ℕ). PutsNamed o.pool name None l put (Ok tt)) are o.does in
       put_by o.pool o.opens p.first p.is_new p.looked (reads_along p.table p.first p.looked p.reads) p.table name put p.last p.puts
 
-  pub one_removed : (name : List ℕ) → RemovesNamedAll G device name → HappensOn G device (IsOneEntry RemovesOne)
+  pub one_removed : (name : List ℕ) → RemovesNamedAll G device name → HappensByNew G device (IsOneEntry RemovesOne)
   one_removed name (n, o) =
       let r = o.does in
       removed_by o.pool o.opens r.first r.is_new r.looked (reads_along r.table r.first r.looked r.reads) r.table name n r.last r.removes

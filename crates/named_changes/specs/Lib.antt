@@ -3,6 +3,7 @@ pub mod NamedCommands
 pub mod NamedOps
 pub mod NamedPuts
 pub mod NamedRemovals
+pub mod NewHandles
 pub mod NewObjects
 pub mod Refusals
 pub mod TableReads

@@ -2,9 +2,9 @@
 use Rattle.std.specs.Prelude.{ℕ, ◌≡◌, ◌⊎◌, List, None, Option, Ok, Err, Result, Some}
 use Rattle.base.specs.declared.error.PoolError.{PoolError}
 use Rattle.base.specs.declared.names.ObjectId.{ObjectId}
-use Rattle.commands.specs.Committed.{PutsInto}
 use Rattle.commands.specs.declared.changes.Put.{Put}
 use Rattle.device_model.specs.declared.device.SectorDevice.{Ghosts}
+use Rattle.named_changes.specs.NewHandles.{PutsByNew}
 use Rattle.named_changes.specs.NewObjects.{PutsNew, PutsNothing}
 use Rattle.named_changes.specs.Refusals.{by_engine}
 use Rattle.named_changes.specs.TableReads.{ReadsTable}
@@ -23,7 +23,7 @@ IsUnknown table name = (n : ℕ) → IsNamed table n name → ⊥
 module _ {Dev : Type 0} {G : Ghosts Dev} where
   -- bytes were put into the object of this number, as a put by number does
   abbrev pub PutsKnown : Shared Dev G → ObjectId → Option ℕ → List ℕ → Put → Result (Unit {0}) NameRefusal → Type 0
-  PutsKnown p n offset bytes put result = (end : Result (Unit {0}) PoolError) × PutsInto p n offset bytes put end × (result ≡ by_engine end)
+  PutsKnown p n offset bytes put result = (end : Result (Unit {0}) PoolError) × PutsByNew p n offset bytes put end × (result ≡ by_engine end)
 
   -- into the object that has the name, and the first handle did no more; or that handle put them into a new object
   abbrev pub PutsByName : Shared Dev G → List ℕ → List ℕ → Option ℕ → List ℕ → Put → Result (Unit {0}) NameRefusal → Handle Dev G → Handle Dev G → Type 0

@@ -199,6 +199,7 @@ fn put_known<R: Wait, D: SectorDevice>(
         object,
         offset: given.offset,
     };
-    let (put, end) = put_and_sync(rt, alloc, pool, target, given.bytes);
+    let mut handle = pool.handle();
+    let (put, end) = put_and_sync(rt, alloc, &mut handle, target, given.bytes);
     (put, by_engine(end))
 }

@@ -1,1 +1,3 @@
+mod LeftClients
+mod ServedDevices
 mod ServedPools

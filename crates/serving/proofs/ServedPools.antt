@@ -1,7 +1,7 @@
 -- If a serve ends well, its pool is synced, all bytes of the input are frames, and the output has the opening and their
 -- answers.
 use Rattle.std.proofs.Common.{[], ◌≡◌, ◌≢◌, ◌⊎◌, ◌++◌, Ok, Err, List, ℕ, ap, append-nil, arith, inl, inr, length, refl, subst, sym, take_all, ◌∙◌}
-use Rattle.std.specs.Prelude.{Bool, IfErr, IfOk, IfSome, IsOk, IsSome, IsSomeAnd, IsTrue, None, Option, Result, Some, false, true}
+use Rattle.std.specs.Prelude.{IfOk, IfSome, IsOk, IsSome, IsSomeAnd, IsTrue, None, Option, Result, Some}
 use Rattle.std.specs.Io.{StartsWith}
 use Rattle.std.specs.Io.KnownBytes.{Appends}
 use Rattle.std.proofs.lemmas.Bool.{false≢true}
@@ -17,12 +17,16 @@ use Rattle.frames.specs.Openings.{bytes_of_opening, bytes_of_unopened}
 use Rattle.pool_threads.specs.Handles.{IsNewHandle, OpensBehind, moment_in, opened_in, opening_view, shared_of}
 use Rattle.pool_threads.specs.Waits.{SyncsPool}
 use Rattle.pool_threads.specs.declared.handle.Handle.{Handle}
+use Rattle.pool_threads.specs.declared.handle.LastSeen.{LastSeen}
 use Rattle.pool_threads.specs.declared.pool.Pool.{Pool}
 use Rattle.pool_threads.specs.declared.shared.Shared.{Shared}
 use Rattle.read_commands.specs.Failures.{IsFailureFor, failure_status, refusal_of}
 use Rattle.read_commands.specs.declared.failure.Failure.{Failure}
 use Rattle.read_commands.specs.declared.failure.Failure.TheVariants as failure
-use Rattle.serving.specs.Serving.{AnswersInput, IsUnopened, OpensOn, SaysUnopened, ServesOrRefuses, ServesPool, StaysUnopened, opening_of}
+use Rattle.closed_pools.specs.LeftDevices.{Closes, ClosesAfter, LosesNothing}
+use Rattle.closed_pools.proofs.LeftDevices.{closed_still, just_closes}
+use Rattle.serving.specs.Serving.{AnswersInput, GivesOrRefuses, IsUnopened, OpensOn, RefusesToServe, SaysUnopened, ServesAndCloses, ServesAndHolds, ServesAndLeaves, ServesOn, ServesOrRefuses, ServesPool, StaysUnopened, StopsAtOpening, opening_of}
+use Rattle.serving.proofs.ServedDevices.{closed_holds}
 use Rattle.command_arguments.specs.declared.arguments.ServeArguments.{ServeArguments}
 
 -- a failure of the opening is no good end
@@ -56,11 +60,18 @@ less_said : {E F A : Type 0} (P : A → Type 0) (said : Result A E) (more : Resu
 less_said {F = F} {A = A} P (Ok x) more is p = subst (λ (r : Result A F). IfOk r P) is p
 less_said P (Err e) more is p = tt
 
-module _ {Dev : Type 0} {G : Ghosts Dev} {E F : Type 0} (p : Shared Dev G) (opened : List ℕ) (old new : Streams) where
+-- what follows of a value follows if there is one
+some_weaker : {A : Type 0} (o : Option A) (P Q : A → Type 0) → ((x : A) → P x → Q x) → IfSome o P → IfSome o Q
+some_weaker None P Q each p = tt
+some_weaker (Some x) P Q each p = each x p
+
+module _ {Dev : Type 0} {G : Ghosts Dev} {E F : Type 0} (p : Shared Dev G) (opened : List ℕ) (old new : Streams) (said : Result Ending E) (more : Result Ending F) (is : IfOk said (λ (e : Ending). more ≡ Ok e)) where
   -- a serve that ended so ended also with a result that says no more
-  pub serves_less : (said : Result Ending E) (more : Result Ending F) → IfOk said (λ (e : Ending). more ≡ Ok e) → ServesPool p opened more old new → ServesPool p opened said old new
-  serves_less said more is (inl s) = inl (record { failed = less_said (λ (e : Ending). e ≢ Done) said more is s.failed; unread = s.unread; front = s.front })
-  serves_less said more is (inr s) = inr (record {
+  stops_less : StopsAtOpening opened more old new → StopsAtOpening opened said old new
+  stops_less s = record { failed = less_said (λ (e : Ending). e ≢ Done) said more is s.failed; unread = s.unread; front = s.front }
+
+  abbrev answers_less : AnswersInput p opened more old new → AnswersInput p opened said old new
+  answers_less s = record {
     ending = s.ending;
     exchanges = s.exchanges;
     synced = s.synced;
@@ -73,13 +84,25 @@ module _ {Dev : Type 0} {G : Ghosts Dev} {E F : Type 0} (p : Shared Dev G) (open
     opening = s.opening;
     ends = s.ends;
     well = less_said (λ (e : Ending). (e ≡ s.ending) × IsOk s.synced) said more is s.well;
-  })
+  }
 
--- so it is of what was kept, if it was
-pub kept_less : {Dev E F K : Type 0} {G : Ghosts Dev} (p : Shared Dev G) (opened : List ℕ) (old : Streams) (new : K → Streams) (kept : Option K) (said : Result Ending E) (more : Result Ending F) → IfOk said (λ (e : Ending). more ≡ Ok e)
-    → IfSome kept (λ (k : K). ServesPool p opened more old (new k)) → IfSome kept (λ (k : K). ServesPool p opened said old (new k))
-kept_less p opened old new None said more is served = tt
-kept_less p opened old new (Some k) said more is served = serves_less p opened old (new k) said more is served
+  pub leaves_less : (left : LastSeen Dev G) → ServesAndLeaves p opened more old new left → ServesAndLeaves p opened said old new left
+  leaves_less left (inl (s, by)) = inl (stops_less s, by)
+  leaves_less left (inr (a, behind)) = inr (answers_less a, behind)
+
+  -- so it is of one whose pool was closed then
+  pub closes_less : (left : LastSeen Dev G) (back : Option Dev) → ServesAndLeaves p opened more old new left → IfSome back (ClosesAfter p left) → ServesAndCloses p opened said old new back
+  closes_less left back (inl (s, by)) closes = inl (stops_less s)
+  closes_less left back (inr (a, behind)) closes = inr (answers_less a, some_weaker back _ _ (λ d c. (left, behind, c)) closes)
+
+-- what was kept of a serve that ended so
+pub kept_if : {E F K : Type 0} (said : Result Ending E) (more : Result Ending F) (kept : Option K) → IfOk said (λ (e : Ending). more ≡ Ok e) → (IsOk more → IsSome kept) → IsOk said → IsSome kept
+kept_if {F = F} (Ok e) more kept is keeps ok = keeps (subst (λ (r : Result Ending F). IsOk r) (sym is) refl)
+kept_if (Err e) more kept is keeps ok = absurd (false≢true ok)
+
+-- a pool that was closed after what a handle had seen was closed
+pub some_closes : {Dev : Type 0} {G : Ghosts Dev} (p : Shared Dev G) (left : LastSeen Dev G) (back : Option Dev) → IfSome back (ClosesAfter p left) → IfSome back (Closes p)
+some_closes p left back closes = some_weaker back _ _ (just_closes p left) closes
 
 -- no failure has the status of what was done
 pub fails : (f : Failure) → failure_status f ≢ 0
@@ -89,34 +112,48 @@ fails (failure.OutOfRange n) is = absurd (omega (arith, is))
 fails (failure.Unusable c) is = absurd (omega (arith, is))
 fails failure.Unwritten is = absurd (omega (arith, is))
 
-abbrev error_in : {A E : Type 0} → E → Result A E → E
-error_in e (Ok x) = e
-error_in e (Err f) = f
-
-abbrev is_ok_in : {A E : Type 0} → Result A E → Bool
-is_ok_in (Ok x) = true
-is_ok_in (Err e) = false
-
-module _ {Dev : Type 0} (G : Ghosts Dev) (given : ServeArguments) (status : ℕ) where
-  -- what an open that was refused returned
-  abbrev refused_open : Failure → Result (Pool Dev G) Failure
-  refused_open why = Err why
-
+module _ {Dev : Type 0} (G : Ghosts Dev) (device : Dev) (given : ServeArguments) (status : ℕ) where
   -- a pool that wasn't opened
-  pub unserved : (opened : Result Dev FileRefusal) (why : Failure) (old new : Streams) → IfErr opened (λ cause. refused_open why ≡ refused_open (failure.Unusable cause)) → IfOk opened (λ device. IsUnopened G device given why)
-      → SaysUnopened (refusal_of why) old.output new.output → new.input ≡ old.input → status ≢ 0 → ServesOrRefuses G opened given status old new
-  unserved (Ok device) why old new unusable (e, refused, is) said unread failed =
+  pub unserved : (why : Failure) (back : Option Dev) (old new : Streams) → IsUnopened G device given why → SaysUnopened (refusal_of why) old.output new.output → new.input ≡ old.input → status ≢ 0 → GivesOrRefuses G device given status old new back
+  unserved why back old new (e, refused, is) said unread failed =
       inr (record { error = e; refused = refused; stays = record { failed = failed; unread = unread; said = subst (λ (r : Option PoolError). SaysUnopened r old.output new.output) is said } })
-  unserved (Err cause) why old new unusable refused said unread failed =
-      record { failed = failed; unread = unread; said = subst (λ (f : Failure). SaysUnopened (refusal_of f) old.output new.output) (ap (error_in why) unusable) said }
 
   -- one that was
-  pub served : {K : Type 0} (opened : Result Dev FileRefusal) (pool : Pool Dev G) (result : Result Ending Failure) (old : Streams) (new : K → Streams) (kept : Option K)
-      → IfErr opened (λ cause. Ok pool ≡ refused_open (failure.Unusable cause)) → IfOk opened (λ device. OpensOn G device given pool) → (status ≡ 0 → result ≡ Ok Done)
-      → IfSome kept (λ (k : K). ServesPool (shared_of pool) (bytes_of_opening (opening_of (opened_in pool))) result old (new k)) → IfSome kept (λ (k : K). ServesOrRefuses G opened given status old (new k))
-  served opened pool result old new None unusable opens done serves = tt
-  served (Ok device) pool result old new (Some k) unusable opens done serves = inl (record { pool = pool; opens = opens; result = result; serves = serves; done = done })
-  served (Err cause) pool result old new (Some k) unusable opens done serves = absurd (false≢true (sym (ap is_ok_in unusable)))
+  pub served : {K : Type 0} (pool : Pool Dev G) (result : Result Ending Failure) (back : Option Dev) (old : Streams) (new : K → Streams) (kept : Option K) → OpensOn G device given pool → (status ≡ 0 → result ≡ Ok Done) → (IsOk result → IsSome back)
+      → IfSome kept (λ (k : K). ServesAndCloses (shared_of pool) (bytes_of_opening (opening_of (opened_in pool))) result old (new k) back) → IfSome kept (λ (k : K). GivesOrRefuses G device given status old (new k) back)
+  served pool result back old new None opens done given_back closes = tt
+  served pool result back old new (Some k) opens done given_back closes = inl (record {
+    pool = pool;
+    opens = opens;
+    result = result;
+    serves = closed_holds device given pool opens (bytes_of_opening (opening_of (opened_in pool))) result old (new k) back closes;
+    done = done;
+    given_back = λ zero. given_back (subst (λ (r : Result Ending Failure). IsOk r) (sym (done zero)) refl);
+  })
+
+  -- what it did, without what came back
+  pool_served : {E : Type 0} (pool : Pool Dev G) (opened : List ℕ) (result : Result Ending E) (old new : Streams) (back : Option Dev) → ServesAndHolds (shared_of pool) opened result old new device back → ServesPool (shared_of pool) opened result old new
+  pool_served pool opened result old new back (inl stops) = inl stops
+  pool_served pool opened result old new back (inr (a, holds)) = inr a
+
+  on_served : (old new : Streams) (back : Option Dev) → GivesOrRefuses G device given status old new back → ServesOn G device given status old new ⊎ RefusesToServe G device given status old new
+  on_served old new back (inr r) = inr r
+  on_served old new back (inl s) = inl (record {
+    pool = s.pool;
+    opens = s.opens;
+    result = s.result;
+    serves = pool_served s.pool (bytes_of_opening (opening_of (opened_in s.pool))) s.result old new back s.serves;
+    done = s.done;
+  })
+
+  pub all_served : {K : Type 0} (opened : Result Dev FileRefusal) (back : Option Dev) (old : Streams) (new : K → Streams) (kept : Option K) → opened ≡ Ok device
+      → IfSome kept (λ (k : K). GivesOrRefuses G device given status old (new k) back) → IfSome kept (λ (k : K). ServesOrRefuses G opened given status old (new k))
+  all_served opened back old new kept is served =
+      subst (λ (o : Result Dev FileRefusal). IfSome kept (λ k. ServesOrRefuses G o given status old (new k))) (sym is) (some_weaker kept _ _ (λ k s. on_served old (new k) back s) served)
+
+-- the device of a pool that was opened and closed
+pub served_still : {Dev : Type 0} (G : Ghosts Dev) (device : Dev) (given : ServeArguments) (pool : Pool Dev G) (back : Option Dev) → OpensOn G device given pool → IfSome back (Closes (shared_of pool)) → IfSome back (LosesNothing G device)
+served_still G device given pool back opens closes = closed_still (shared_of pool) device given.dirty_max opens.opens back closes
 
 abbrev bytes_in : Option (List ℕ) → List ℕ
 bytes_in (Some bytes) = bytes

@@ -1,5 +1,5 @@
 -- What a serve of the pool in a file did, and what it said first.
-use Rattle.std.specs.Prelude.{ℕ, ◌≡◌, ◌≢◌, ◌⊎◌, IfOk, IsOk, IsTrue, List, Option, None, Some, Result, Ok, Err}
+use Rattle.std.specs.Prelude.{ℕ, ◌≡◌, ◌≢◌, ◌⊎◌, IfOk, IfSome, IsOk, IsSome, IsTrue, List, Option, None, Some, Result, Ok, Err}
 use Rattle.std.specs.Io.KnownBytes.{Appends}
 use Rattle.base.specs.declared.error.PoolError.{PoolError}
 use Rattle.base.specs.declared.names.Group.{Group}
@@ -13,8 +13,11 @@ use Rattle.frame_answers.specs.declared.serving.Ending.TheVariants.{Done}
 use Rattle.frames.specs.Openings.{bytes_of_opening, bytes_of_unopened}
 use Rattle.frames.specs.declared.opening.Opening.{Opening}
 use Rattle.import_replay.specs.ImportRefusals.{IsImportRefusal}
-use Rattle.pool_threads.specs.Handles.{IsNewHandle, OpensBehind, ShowsImport, moment_in, opened_in, opening_view, shared_of}
+use Rattle.closed_pools.specs.LeftDevices.{ClosesAfter, HasAllOf, HoldsRunUpon}
+use Rattle.pool_threads.specs.Answers.{state_seen}
+use Rattle.pool_threads.specs.Handles.{IsLeftBehind, IsNewHandle, OpensBehind, ShowsImport, moment_in, opened_in, opening_view, shared_of}
 use Rattle.pool_threads.specs.declared.handle.Handle.{Handle}
+use Rattle.pool_threads.specs.declared.handle.LastSeen.{LastSeen}
 use Rattle.pool_threads.specs.declared.opened.Opened.{Opened}
 use Rattle.pool_threads.specs.declared.pool.Pool.{Pool}
 use Rattle.pool_threads.specs.declared.shared.Shared.{Shared}
@@ -63,6 +66,22 @@ module _ {Dev : Type 0} {G : Ghosts Dev} where
   abbrev pub ServesPool : {E : Type 0} → Shared Dev G → List ℕ → Result Ending E → Streams → Streams → Type 0
   ServesPool p opened result old new = StopsAtOpening opened result old new ⊎ AnswersInput p opened result old new
 
+  -- a new handle of this pool served so, and this is what it had seen as it left
+  abbrev pub ServesAndLeaves : {E : Type 0} → Shared Dev G → List ℕ → Result Ending E → Streams → Streams → LastSeen Dev G → Type 0
+  ServesAndLeaves p opened result old new left = (StopsAtOpening opened result old new × ((h : Handle Dev G) × IsNewHandle p h × IsLeftBehind h left))
+      ⊎ ((a : AnswersInput p opened result old new) × IsLeftBehind a.last left)
+
+  -- then the pool was closed, if the device came back
+  abbrev pub ServesAndCloses : {E : Type 0} → Shared Dev G → List ℕ → Result Ending E → Streams → Streams → Option Dev → Type 0
+  ServesAndCloses p opened result old new back = StopsAtOpening opened result old new
+      ⊎ ((a : AnswersInput p opened result old new) × IfSome back (λ device. (left : LastSeen Dev G) × IsLeftBehind a.last left × ClosesAfter p left device))
+
+  -- If the pool was synced, and the device came back, a run upon what this device held has left it: with all that the
+  -- handle had seen when it had answered the frames, acknowledged.
+  abbrev pub ServesAndHolds : {E : Type 0} → Shared Dev G → List ℕ → Result Ending E → Streams → Streams → Dev → Option Dev → Type 0
+  ServesAndHolds p opened result old new device back = StopsAtOpening opened result old new
+      ⊎ ((a : AnswersInput p opened result old new) × (IsOk a.synced → IfSome back (HoldsRunUpon G (HasAllOf (state_seen a.serves.served).past) device)))
+
 module _ {Dev : Type 0} (G : Ghosts Dev) where
   -- the pool was opened that this device holds, with the limit and the moment that were given
   pub record OpensOn (device : Dev) (given : ServeArguments) (pool : Pool Dev G) : Type 0 where
@@ -91,3 +110,15 @@ module _ {Dev : Type 0} (G : Ghosts Dev) where
   abbrev pub ServesOrRefuses : Result Dev FileRefusal → ServeArguments → ℕ → Streams → Streams → Type 0
   ServesOrRefuses (Ok device) given status old new = ServesOn device given status old new ⊎ RefusesToServe device given status old new
   ServesOrRefuses (Err cause) given status old new = StaysUnopened None status old new
+
+  -- So it was opened and served, and this came back: the device, if all was done, with all that was answered.
+  pub record ServesAndGives (device : Dev) (given : ServeArguments) (status : ℕ) (old new : Streams) (back : Option Dev) : Type 0 where
+    pub pool : Pool Dev G
+    pub opens : OpensOn device given pool
+    pub result : Result Ending Failure
+    pub serves : ServesAndHolds (shared_of pool) (bytes_of_opening (opening_of (opened_in pool))) result old new device back
+    pub done : status ≡ 0 → result ≡ Ok Done
+    pub given_back : status ≡ 0 → IsSome back
+
+  abbrev pub GivesOrRefuses : Dev → ServeArguments → ℕ → Streams → Streams → Option Dev → Type 0
+  GivesOrRefuses device given status old new back = ServesAndGives device given status old new back ⊎ RefusesToServe device given status old new

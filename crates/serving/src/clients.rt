@@ -1,17 +1,25 @@
 //! What callers rely on of the command that serves a pool.
 
-ghost use Rattle.std.specs.Prelude.{ℕ, ◌≡◌, ◌++◌, IfSome, IsSomeAnd, IsTrue, List, None, Ok};
+ghost use Rattle.std.specs.Prelude.{ℕ, ◌≡◌, ◌++◌, Bool, IfSome, IsSomeAnd, IsTrue, List, None, Ok, Some, false, get_or, slice_get, true};
 ghost use Rattle.std.specs.Io.{StartsWith};
 ghost use Rattle.base.specs.declared.names.Group as group;
+ghost use Rattle.base.specs.disk.Fairness.{LeavesFairNow};
+ghost use Rattle.base.specs.history.Contents.{Contents};
+ghost use Rattle.base.specs.history.History.{Entry, kept, replay};
+ghost use Rattle.base.specs.history.Past.{Past};
+ghost use Rattle.base.specs.kept.LeftDisks.{IsLeft};
+ghost use Rattle.base.specs.steps.Explains.{IsLeftBy};
+ghost use Rattle.base.specs.tree.Mount.{MountsTo};
 ghost use Rattle.frame_answers.specs.Serving.{AnswersFrames, Exchange, answers_of, frames_of, program};
 ghost use Rattle.serving.specs.Serving.{opening_of};
 ghost use Rattle.frames.specs.Openings.{bytes_of_opening, bytes_of_unopened};
+ghost use Rattle.pool_threads.specs.Answers.{state_seen};
 ghost use Rattle.pool_threads.specs.Handles.{IsNewHandle, OpensBehind, moment_in, opened_in, opening_view, shared_of};
 ghost use Rattle.pool_threads.specs.Waits.{SyncsPool};
 ghost use Rattle.pool_threads.specs.declared.handle.Handle as handles;
 ghost use Rattle.pool_threads.specs.declared.pool.Pool as pools;
 
-use crate::serving::{report_terminal, run_serve};
+use crate::serving::{report_terminal, run_serve, serve_on};
 use command_arguments::{ServeArguments, Verbosity};
 use device_model::{FileRefusal, MemDevice, SectorDevice};
 use read_commands::NotesRefusals;
@@ -55,6 +63,34 @@ fn a_serve_of_status_0_answered_all_of_its_input<
         ++ bytes_of_opening (opening_of (opened_in p)) ++ answers_of exchanges) }
 {
     run_serve(rt, LIMITED, BRIEF, Ok(device), input, output, errors)
+}
+
+// Whichever run left the device: the frames were answered by a handle, and all entries that it had seen then are in a run
+// that goes on from there. Every image that a crash leaves of the device mounts the replay of some entries, these among
+// them.
+fn what_was_answered_is_found_after_a_crash<
+    'a,
+    R: Threads + Wait + Sync + AllocGlobal,
+    D: SectorDevice + NotesRefusals + Send + Drop,
+    E: Write,
+>(
+    rt: &R,
+    device: D,
+    input: &'a [u8],
+    output: Vec<u8>,
+    errors: &mut E,
+) -> (u8, Option<(&'a [u8], Vec<u8>)>, Option<D>)
+    ensures { result.0 ≡ 0 → IsTrue D.keeps_model → (past : Past) → IsLeft past (D.disk device)
+        → (exchanges : List Exchange) × (first served : handles.Handle _ _)
+        × AnswersFrames program exchanges first served
+        × IsSomeAnd result.2 (λ after. ∥ ((later : Past) × IsLeftBy past later.base
+        × LeavesFairNow (D.disk after) past.created (λ image. (c : Contents) × MountsTo image c
+        × (marks : List Bool) × ((ordinal : ℕ) (e : Entry)
+        → slice_get (state_seen served).past.entries ordinal ≡ Some e
+        → (slice_get later.entries ordinal ≡ Some e) × (get_or marks ordinal false ≡ true))
+        × (replay (kept marks later.entries) later.base ≡ Ok c))) ∥₁) }
+{
+    serve_on(rt, LIMITED, BRIEF, device, input, output, errors)
 }
 
 // A file that can't be used is told by a frame of kind 5 with number 0, or by a front of that; and nothing was read.

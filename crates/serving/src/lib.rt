@@ -5,4 +5,4 @@ mod clients;
 mod serving;
 mod unopened;
 
-pub use serving::{report_terminal, run_serve};
+pub use serving::{report_terminal, run_serve, serve_on};

@@ -2,17 +2,19 @@
 //! the engine. The loops that sync the pool run beside it, each in a thread of its own.
 
 ghost use Rattle.std.specs.Prelude.{◌≡◌, ◌≢◌, ◌≤◌, Err, IfErr, IfOk, IfSome, IsErr, IsOk, IsSome, Ok};
-ghost use Rattle.serving.specs.Serving.{IsUnopened, OpensOn, ServesOrRefuses, ServesPool, opening_of};
+ghost use Rattle.closed_pools.specs.LeftDevices.{Closes, LosesNothing};
+ghost use Rattle.serving.specs.Serving.{GivesOrRefuses, IsUnopened, OpensOn, ServesAndCloses, ServesAndLeaves, ServesOrRefuses, opening_of};
 ghost use Rattle.frames.specs.Openings.{bytes_of_opening};
 ghost use Rattle.pool_threads.specs.Handles.{opened_in, shared_of};
 
 use crate::unopened::{write_opening, write_unopened};
 use base::PoolError;
+use closed_pools::{close, close_after};
 use command_arguments::{ServeArguments, Verbosity};
 use device_model::{FileRefusal, SectorDevice};
 use frame_answers::{AnswerWriter, Ending, serve};
 use pool_loops::{Halt, work_beside_loops};
-use pool_threads::Pool;
+use pool_threads::{LastSeen, Pool};
 use read_commands::{BadNumber, Failure, NotesRefusals, report_failure};
 use script_lines::FAILED;
 use std::alloc::Global;
@@ -53,43 +55,87 @@ pub fn run_serve<
     ensures range { result.0 ≤ 3 }
     ensures no_usage { result.0 ≢ 2 }
 {
+    match opened {
+        Ok(device) => {
+            let (status, kept, _) = serve_on(
+                rt, arguments, verbosity, device, input, output, errors,
+            );
+            (status, kept)
+        }
+        Err(cause) => {
+            let mut output = output;
+            let failure = Failure::Unusable(cause);
+            write_unopened(rt.alloc(), &failure, &mut output);
+            let status = report_failure(failure, arguments.file, verbosity, errors);
+            (status, Some((input, output)))
+        }
+    }
+}
+
+/// Serves the pool on a device as `run_serve` does. It returns the exit status, the input and the output as they are
+/// then, and the device, with the pool closed.
+///
+/// With status 0 an import of whatever a crash leaves of the device has all that was answered. With any status nothing
+/// is lost that was durable. The device is lost, with another status than 0, only if a thread was stopped while it had
+/// the pool.
+pub fn serve_on<
+    R: Threads + Wait + Sync + AllocGlobal,
+    D: SectorDevice + NotesRefusals + Send + Drop,
+    I: Read + Drop,
+    O: Write + Drop,
+    E: Write,
+>(
+    rt: &R,
+    arguments: ServeArguments<'_>,
+    verbosity: Verbosity,
+    device: D,
+    input: I,
+    output: O,
+    errors: &mut E,
+) -> (u8, Option<(I, O)>, Option<D>)
+    ensures served { IfSome result.1 (λ kept.
+        GivesOrRefuses D.SectorDevice device arguments.entry result.0
+        (record { input = I.remaining input; output = O.contents output })
+        (record { input = I.remaining kept.0; output = O.contents kept.1 }) result.2) }
+    ensures kept { result.0 ≡ 0 → IsSome result.1 }
+    ensures still_held { IfSome result.2 (LosesNothing D.SectorDevice device) }
+    ensures range { result.0 ≤ 3 }
+    ensures no_usage { result.0 ≢ 2 }
+{
     let alloc = rt.alloc();
     let mut output = output;
-    let pool = match open_pool(alloc, arguments, opened) {
+    let pool = match open_pool(alloc, arguments, device) {
         Ok(pool) => pool,
-        Err(failure) => {
+        Err((failure, device)) => {
             write_unopened(alloc, &failure, &mut output);
             let status = report_failure(failure, arguments.file, verbosity, errors);
-            return (status, Some((input, output)));
+            return (status, Some((input, output)), Some(device));
         }
     };
-    let (served, kept) = serve_pool(rt, alloc, pool, input, output);
+    let (served, kept, device) = serve_pool(rt, alloc, pool, input, output);
     let status = report_served(served, arguments.file, verbosity, errors);
-    (status, kept)
+    (status, kept, device)
 }
 
 // Opens the pool on a device.
 fn open_pool<D: SectorDevice + NotesRefusals + Drop>(
     alloc: Global,
     arguments: ServeArguments<'_>,
-    opened: Result<D, FileRefusal>,
-) -> Result<Pool<D>, Failure>
-    ensures unusable { IfErr opened (λ cause. result ≡ Err (Failure.Unusable cause)) }
-    ensures opened { IfOk result (λ pool. IfOk opened (λ device.
-        OpensOn D.SectorDevice device arguments.entry pool)) }
-    ensures refused { IfErr result (λ failure. IfOk opened (λ device.
-        IsUnopened D.SectorDevice device arguments.entry failure)) }
+    device: D,
+) -> Result<Pool<D>, (Failure, D)>
+    ensures opened { IfOk result (λ pool.
+        OpensOn D.SectorDevice device arguments.entry pool) }
+    ensures refused { IfErr result (λ e.
+        IsUnopened D.SectorDevice device arguments.entry e.0) }
+    ensures still_held { IfErr result (λ e. LosesNothing D.SectorDevice device e.1) }
 {
-    let device = match opened {
-        Ok(device) => device,
-        Err(cause) => return Err(Failure::Unusable(cause)),
-    };
     let (dirty_max, cache_blocks) = (arguments.dirty_max, arguments.cache_blocks);
     match Pool::open_with(alloc, device, dirty_max, cache_blocks, arguments.moment) {
         Ok(pool) => Ok(pool),
         Err((refusal, device)) => {
             let number = BadNumber::of_limits(dirty_max, cache_blocks);
-            Err(Failure::of_pool(refusal, &device).for_number(number))
+            let failure = Failure::of_pool(refusal, &device).for_number(number);
+            Err((failure, device))
         }
     }
 }
@@ -131,7 +177,7 @@ fn report_ending<E: Write>(ending: Ending, file: &str, verbosity: Verbosity, err
     }
 }
 
-// Serves a pool, and closes it if that was refused, for the cause. `None` if no threads can be made.
+// Serves a pool, and closes it. There are no input and no output if no threads can be made.
 fn serve_pool<
     R: Threads + Wait + Sync,
     D: SectorDevice + NotesRefusals + Send + Drop,
@@ -143,20 +189,42 @@ fn serve_pool<
     pool: Pool<D>,
     input: I,
     output: O,
-) -> (Result<Ending, Failure>, Option<(I, O)>)
-    ensures served { IfSome result.1 (λ kept. ServesPool (shared_of pool)
+) -> (Result<Ending, Failure>, Option<(I, O)>, Option<D>)
+    ensures served { IfSome result.1 (λ kept. ServesAndCloses (shared_of pool)
         (bytes_of_opening (opening_of (opened_in pool))) result.0
         (record { input = I.remaining input; output = O.contents output })
-        (record { input = I.remaining kept.0; output = O.contents kept.1 })) }
+        (record { input = I.remaining kept.0; output = O.contents kept.1 }) result.2) }
     ensures kept { IsOk result.0 → IsSome result.1 }
+    ensures closed { IfSome result.2 (Closes (shared_of pool)) }
+    ensures given_back { IsOk result.0 → IsSome result.2 }
 {
     let (served, kept) = serve_beside_loops(rt, alloc, &pool, input, output);
+    match kept {
+        Some((input, output, left)) => {
+            let device = close_after(pool, left);
+            (ended(served, &device), Some((input, output)), device)
+        }
+        None => {
+            let device = close(pool);
+            (ended(served, &device), None, device)
+        }
+    }
+}
+
+// How a serve ended whose pool was closed.
+fn ended<D: NotesRefusals>(
+    served: Result<Ending, PoolError>,
+    device: &Option<D>,
+) -> Result<Ending, Failure>
+    ensures ended { IfOk result (λ ending. served ≡ Ok ending) }
+    ensures given_back { IsOk result → IsSome device.now }
+{
     match served {
-        Ok(ending) => (Ok(ending), kept),
-        Err(refusal) => (
-            Err(Failure::of_closed(refusal, &pool.close().map(|state| state.into_device()))),
-            kept,
-        ),
+        Ok(ending) => match device {
+            Some(_) => Ok(ending),
+            None => Err(Failure::Refused(PoolError::Suspended)),
+        },
+        Err(refusal) => Err(Failure::of_closed(refusal, device)),
     }
 }
 
@@ -172,11 +240,11 @@ fn serve_beside_loops<
     pool: &Pool<D>,
     input: I,
     output: O,
-) -> (Result<Ending, PoolError>, Option<(I, O)>)
-    ensures served { IfSome result.1 (λ kept. ServesPool (shared_of pool.entry.now)
+) -> (Result<Ending, PoolError>, Option<(I, O, LastSeen<D>)>)
+    ensures served { IfSome result.1 (λ kept. ServesAndLeaves (shared_of pool.entry.now)
         (bytes_of_opening (opening_of (opened_in pool.entry.now))) result.0
         (record { input = I.remaining input; output = O.contents output })
-        (record { input = I.remaining kept.0; output = O.contents kept.1 })) }
+        (record { input = I.remaining kept.0; output = O.contents kept.1 }) kept.2) }
     ensures kept { IsOk result.0 → IsSome result.1 }
 {
     let halt = Halt::new();
@@ -184,7 +252,9 @@ fn serve_beside_loops<
         serve_kept(rt, alloc, pool, input, output)
     });
     match worked {
-        Ok((served, input, output)) => (first_refusal(looped, served), Some((input, output))),
+        Ok((served, input, output, left)) => {
+            (first_refusal(looped, served), Some((input, output, left)))
+        }
         Err(refusal) => (Err(refusal), None),
     }
 }
@@ -203,29 +273,29 @@ fn first_refusal(
     }
 }
 
-// Says that the pool is open. Then it makes a handle, answers the frames of the input by it, and syncs the pool. It
-// hands the input and the output back, whatever came of the serve.
+// Says that the pool is open. Then it answers the frames of the input by a new handle, and syncs the pool. It hands the
+// input and the output back, and what the handle has seen, whatever came of the serve.
 fn serve_kept<W: Wait, D: SectorDevice, I: Read + Drop, O: Write + Drop>(
     rt: &W,
     alloc: Global,
     pool: &Pool<D>,
     input: I,
     output: O,
-) -> Result<(Result<Ending, PoolError>, I, O), PoolError>
-    ensures served { IfOk result (λ kept. ServesPool (shared_of pool.entry.now)
+) -> Result<(Result<Ending, PoolError>, I, O, LastSeen<D>), PoolError>
+    ensures served { IfOk result (λ kept. ServesAndLeaves (shared_of pool.entry.now)
         (bytes_of_opening (opening_of (opened_in pool.entry.now))) kept.0
         (record { input = I.remaining input; output = O.contents output })
-        (record { input = I.remaining kept.1; output = O.contents kept.2 })) }
+        (record { input = I.remaining kept.1; output = O.contents kept.2 }) kept.3) }
 {
     let (mut input, mut output) = (input, output);
+    let mut handle = pool.handle();
     match write_opening(alloc, pool, &mut output) {
         Ok(()) => {}
-        Err(ending) => return Ok((Ok(ending), input, output)),
+        Err(ending) => return Ok((Ok(ending), input, output, handle.leave())),
     }
     let mut writer = AnswerWriter { output };
-    let mut handle = pool.handle();
     let served = serve(&mut handle, rt, alloc, &mut input, &mut writer);
-    Ok((served, input, writer.output))
+    Ok((served, input, writer.output, handle.leave()))
 }
 
 /// Reports on `errors` that frames are not written to a terminal, and returns the exit status.

@@ -12,10 +12,11 @@ ghost use Rattle.base.specs.declared.step.Step.TheVariants as step;
 ghost use Rattle.base.specs.disk.Calls.{with_refusal};
 ghost use Rattle.base.specs.history.History.{Entry};
 ghost use Rattle.base.specs.steps.Seen.{IsKnownDurable};
+ghost use Rattle.closed_pools.specs.LeftDevices.{IsOnlyHandle};
 ghost use Rattle.commands.specs.Committed.{HappensOn, IsOpenedOn};
 ghost use Rattle.import_replay.specs.ImportRefusals.{IsImportRefusal};
 ghost use Rattle.pool_threads.specs.Answers.{Makes};
-ghost use Rattle.pool_threads.specs.Handles.{IsNewHandle, LeavesSame};
+ghost use Rattle.pool_threads.specs.Handles.{LeavesSame};
 ghost use Rattle.pool_threads.specs.Transacts.{TransactsOrLacks};
 ghost use Rattle.pool_threads.specs.Waits.{SyncsPool};
 ghost use Rattle.pool_threads.specs.declared.handle.Handle as handles;
@@ -65,8 +66,8 @@ fn a_removal_of_status_3_is_one_durable_entry<
 }
 
 // The import was refused, for what the device is or for a call of it, and the device still holds what was left on it.
-// Or a handle of the opened pool was refused the length of object 7, the one transaction with both bytes, or the sync.
-// Or it was told that fewer than four blocks are available: both bytes need a data block, an indirect block, a
+// Or the only handle of the opened pool was refused the length of object 7, the one transaction with both bytes, or the
+// sync. Or it was told that fewer than four blocks are available: both bytes need a data block, an indirect block, a
 // directory and the root.
 fn a_put_of_status_1_was_refused_by_the_engine<
     R: Wait + AllocGlobal,
@@ -80,7 +81,7 @@ fn a_put_of_status_1_was_refused_by_the_engine<
         × (D.refused after ≡ with_refusal e (D.refused device))
         × (IsTrue D.keeps_model → LeavesSame (D.disk device) (D.disk after)))
         ⊎ IsOpenedOn D.SectorDevice device (λ p. (first looked done last : handles.Handle _ _)
-        × IsNewHandle p first
+        × IsOnlyHandle p first
         × (Makes (step.Length (record { 0 = 7 })) (reply.Refused e) first looked
         ⊎ (((ops : List operation.Op) × TransactsOrLacks (record { 0 = 0 }) ops (Err e) looked done
         × ((ops ≡ Create (record { 0 = 7 }) ∷ Write (record { 0 = 7 }) 0 (1 ∷ 2 ∷ []) ∷ [])
@@ -92,7 +93,8 @@ fn a_put_of_status_1_was_refused_by_the_engine<
     run_put(rt, ALL_OF_7, BRIEF, Ok(input), Ok(device), out, errors)
 }
 
-// The import was refused so. Or a handle of the opened pool was refused the one transaction, or the sync after it.
+// The import was refused so. Or the only handle of the opened pool was refused the one transaction, or the sync after
+// it.
 fn a_removal_of_status_1_was_refused_by_the_engine<
     R: Wait + AllocGlobal,
     D: SectorDevice + NotesRefusals + Drop,
@@ -104,7 +106,7 @@ fn a_removal_of_status_1_was_refused_by_the_engine<
         × (D.refused after ≡ with_refusal e (D.refused device))
         × (IsTrue D.keeps_model → LeavesSame (D.disk device) (D.disk after)))
         ⊎ IsOpenedOn D.SectorDevice device (λ p. (first done last : handles.Handle _ _)
-        × IsNewHandle p first
+        × IsOnlyHandle p first
         × (TransactsOrLacks (record { 0 = 0 }) (Remove (record { 0 = 7 }) ∷ []) (Err e) first done
         ⊎ ((r : receipt.Receipt)
         × TransactsOrLacks (record { 0 = 0 }) (Remove (record { 0 = 7 }) ∷ []) (Ok r) first done

@@ -6,7 +6,7 @@ ghost use Rattle.base.specs.declared.operation.Op as operation;
 ghost use Rattle.base.specs.declared.operation.Op.TheVariants.{Create, Remove, SetLength, Write};
 ghost use Rattle.base.specs.history.History.{Entry};
 ghost use Rattle.base.specs.steps.Seen.{IsKnownDurable};
-ghost use Rattle.commands.specs.Committed.{HappensOn};
+ghost use Rattle.named_changes.specs.NewHandles.{HappensByNew};
 ghost use Rattle.object_names.specs.Slots.{slot_bytes};
 
 use super::BRIEF;
@@ -41,7 +41,7 @@ fn a_put_of_a_name_is_one_durable_entry<
     E: Write,
 >(rt: &R, input: Vec<u8>, device: D, out: &mut W, errors: &mut E) -> u8
     requires { input.items ≡ 1 ∷ 2 ∷ [] }
-    ensures { result ≡ 0 → HappensOn D.SectorDevice device
+    ensures { result ≡ 0 → HappensByNew D.SectorDevice device
         (λ before after. (ordinal : ℕ) × (e : Entry) × (n : object.ObjectId)
         × (length before.past.entries ≤ ordinal)
         × (slice_get after.past.entries ordinal ≡ Some e)
@@ -62,7 +62,7 @@ fn a_removal_of_a_name_is_one_durable_entry<
     W: Write,
     E: Write,
 >(rt: &R, device: D, out: &mut W, errors: &mut E) -> u8
-    ensures { result ≡ 0 → HappensOn D.SectorDevice device
+    ensures { result ≡ 0 → HappensByNew D.SectorDevice device
         (λ before after. (ordinal : ℕ) × (e : Entry) × (n : object.ObjectId)
         × (length before.past.entries ≤ ordinal)
         × (slice_get after.past.entries ordinal ≡ Some e)

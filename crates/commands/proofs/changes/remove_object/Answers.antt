@@ -1,15 +1,58 @@
-use Rattle.std.proofs.Common.{Err, Ok, inr, subst, sym}
-use Rattle.std.specs.Prelude.{IfOk}
-use Rattle.pool_threads.specs.Handles.{shared_of}
-use Rattle.commands.specs.Committed.{RemovesOrFails}
+use Rattle.std.proofs.Common.{inl, inr, subst}
+use Rattle.base.specs.declared.names.ObjectId.{ObjectId}
+use Rattle.pool_threads.specs.Handles.{owned_of}
+use Rattle.commands.specs.Committed.{RemovesAndLeaves}
+use Rattle.commands.proofs.LeftContents.{refused_removal_leaves, removal_leaves, removal_number, removal_was_of}
 use Rattle.commands.proofs.changes.remove_object.Goals as goal
 
-pub returns-in-Ok-remove_and_sync-clause-removed : goal.returns-in-Ok-remove_and_sync-clause-removed
-returns-in-Ok-remove_and_sync-clause-removed g c =
-    subst (λ o. IfOk o (λ device. RemovesOrFails g.D.SectorDevice device c.args.arguments.moment (record { 0 = c.args.arguments.object }) (Ok tt))) (sym c.in-Ok.is)
-    (record { pool = shared_of c.in-Ok-open.pool; opens = c.in-Ok-open.ensures.opened; does = c.in-Ok-remove_and_sync.ensures })
+pub returns-in-Err-clause-left : goal.returns-in-Err-clause-left
+returns-in-Err-clause-left g c = λ keeps. inl (c.in-Err.ensures.still_left keeps)
 
-pub returns-in-Err-remove_and_sync-clause-removed : goal.returns-in-Err-remove_and_sync-clause-removed
-returns-in-Err-remove_and_sync-clause-removed g c =
-    subst (λ o. IfOk o (λ device. RemovesOrFails g.D.SectorDevice device c.args.arguments.moment (record { 0 = c.args.arguments.object }) (Err c.for_number.result))) (sym c.in-Ok.is)
-    (inr (c.in-Err-remove_and_sync.refusal, record { pool = shared_of c.in-Ok-open.pool; opens = c.in-Ok-open.ensures.opened; does = c.in-Err-remove_and_sync.ensures }, c.for_number.ensures.cause c.in-Err-remove_and_sync.refusal c.of_closed.ensures.cause))
+pub close_alone-device-requires : goal.close_alone-device-requires
+close_alone-device-requires g c =
+    let left = c.remove_and_leave-end in
+    let n : ObjectId = record { 0 = c.args.arguments.object } in
+    let pool = owned_of c.in-Ok.opened.0 in
+    record {
+      own = removal_was_of pool c.args.device _ c.in-Ok.ensures.opened n left.result.0 left.result.1 left.ensures;
+      only = removal_number pool c.args.device _ c.in-Ok.ensures.opened n left.result.0 left.result.1 left.ensures;
+    }
+
+pub returns-in-Ok-end-clause-removed : goal.returns-in-Ok-end-clause-removed
+returns-in-Ok-end-clause-removed g c =
+    let left = c.remove_and_leave-end in
+    let pool = owned_of c.in-Ok.opened.0 in
+    record {
+      pool = pool;
+      opens = c.in-Ok.ensures.opened;
+      does = (subst (λ r. RemovesAndLeaves pool (record { 0 = c.args.arguments.object }) r left.result.1) c.in-Ok-end.is left.ensures).0;
+    }
+
+pub returns-in-Ok-end-clause-left : goal.returns-in-Ok-end-clause-left
+returns-in-Ok-end-clause-left g c =
+    let left = c.remove_and_leave-end in
+    let n : ObjectId = record { 0 = c.args.arguments.object } in
+    let pool = owned_of c.in-Ok.opened.0 in
+    removal_leaves pool c.args.device _ c.in-Ok.ensures.opened n left.result.1
+    (subst (λ r. RemovesAndLeaves pool n r left.result.1) c.in-Ok-end.is left.ensures) c.close_alone-device.result c.close_alone-device.ensures
+
+pub returns-in-Err-end-clause-removed : goal.returns-in-Err-end-clause-removed
+returns-in-Err-end-clause-removed g c =
+    let left = c.remove_and_leave-end in
+    let pool = owned_of c.in-Ok.opened.0 in
+    inr (
+      c.in-Err-end.refusal,
+      record {
+        pool = pool;
+        opens = c.in-Ok.ensures.opened;
+        does = (subst (λ r. RemovesAndLeaves pool (record { 0 = c.args.arguments.object }) r left.result.1) c.in-Err-end.is left.ensures).0;
+      },
+      c.for_number-failure.ensures.cause c.in-Err-end.refusal c.of_pool-in-Err-end.ensures.cause,
+    )
+
+pub returns-in-Err-end-clause-left : goal.returns-in-Err-end-clause-left
+returns-in-Err-end-clause-left g c =
+    let left = c.remove_and_leave-end in
+    let n : ObjectId = record { 0 = c.args.arguments.object } in
+    let pool = owned_of c.in-Ok.opened.0 in
+    refused_removal_leaves pool c.args.device _ c.in-Ok.ensures.opened n left.result.0 left.result.1 left.ensures c.close_alone-device.result c.close_alone-device.ensures

@@ -1,0 +1,5 @@
+pub mod Adds
+pub mod Sounds
+pub mod Cuts
+pub mod LeftDevices
+mod Closed
