@@ -125,6 +125,6 @@ module _ {Dev : Type 0} {G : Ghosts Dev} where
 
   -- a handle that served was one of its pool
   pub served_was_of : {E : Type 0} (p : Shared Dev G) (opened : List ℕ) (result : Result Ending E) (old new : Streams) (left : LastSeen Dev G) → ServesAndLeaves p opened result old new left → WasOf p left
-  served_was_of p opened result old new left (inl (stops, h, is_new, behind)) = was_of p h h left is_new (along_same h h refl) behind
+  served_was_of p opened result old new left (inl (stops, (h, is_new, behind))) = was_of p h h left is_new (along_same h h refl) behind
   served_was_of p opened result old new left (inr (a, behind)) =
       was_of p a.first a.last left a.is_new (along_on a.first a.serves.served a.last (along_frames a.exchanges a.first a.serves.served a.serves.answers) (along_syncs a.synced a.serves.served a.last a.serves.syncs)) behind

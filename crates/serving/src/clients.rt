@@ -81,7 +81,7 @@ fn what_was_answered_is_found_after_a_crash<
     errors: &mut E,
 ) -> (u8, Option<(&'a [u8], Vec<u8>)>, Option<D>)
     ensures { result.0 ≡ 0 → IsTrue D.keeps_model → (past : Past) → IsLeft past (D.disk device)
-        → (exchanges : List Exchange) × (first served : handles.Handle _ _)
+        → (exchanges : List Exchange) × (first served : handles.Handle _ D.SectorDevice)
         × AnswersFrames program exchanges first served
         × IsSomeAnd result.2 (λ after. ∥ ((later : Past) × IsLeftBy past later.base
         × LeavesFairNow (D.disk after) past.created (λ image. (c : Contents) × MountsTo image c

@@ -7,7 +7,7 @@ pub returns-in-Err : goal.returns-in-Err
 returns-in-Err g c = record {
   served = inl (
     record { failed = not_done c.in-Err.ending c.in-Err.ensures.failed; unread = refl; front = c.in-Err.ensures.front },
-    (c.handle-handle.result, c.handle-handle.ensures, c.leave-in-Err.ensures),
+    (c.handle-handle.result, c.handle-handle.ensures, c.leave.ensures),
   );
 }
 
@@ -30,6 +30,6 @@ returns g c =
           ends = s.5;
           well = s.6;
         },
-        c.leave.ensures,
+        c.leave-2.ensures,
       );
     }

@@ -10,9 +10,9 @@ returns-in-Err-clause-served g c =
 
 pub returns-clause-served : goal.returns-clause-served
 returns-clause-served g c =
-    served g.D.SectorDevice c.args.device c.args.arguments c.report_served-status.result c.in-Ok.pool c.serve_pool-device.result.0 c.serve_pool-device.result.2 _ (λ k. record { input = g.I.Read.remaining k.0; output = g.O.Write.contents k.1 }) c.serve_pool-device.result.1
-    c.in-Ok.ensures.opened c.report_served-status.ensures.done c.serve_pool-device.ensures.given_back c.serve_pool-device.ensures.served
+    served g.D.SectorDevice c.args.device c.args.arguments c.report_served-status.result c.in-Ok.pool c.serve_pool-served.result.0 c.serve_pool-served.result.2 _ (λ k. record { input = g.I.Read.remaining k.0; output = g.O.Write.contents k.1 }) c.serve_pool-served.result.1
+    c.in-Ok.ensures.opened c.report_served-status.ensures.done c.serve_pool-served.ensures.given_back c.serve_pool-served.ensures.served
 
 pub returns-clause-still_held : goal.returns-clause-still_held
 returns-clause-still_held g c =
-    served_still g.D.SectorDevice c.args.device c.args.arguments c.in-Ok.pool c.serve_pool-device.result.2 c.in-Ok.ensures.opened c.serve_pool-device.ensures.closed
+    served_still g.D.SectorDevice c.args.device c.args.arguments c.in-Ok.pool c.serve_pool-served.result.2 c.in-Ok.ensures.opened c.serve_pool-served.ensures.closed
