@@ -1,7 +1,7 @@
 //! The command line of the program `ztxg`: its words, their help, and what they ask for.
 //!
-//! `parse_arguments` matches the words against the commands (`commands.rt`, of the words in `options.rt`), and
-//! `read_arguments` reads what they matched as the `Arguments` of `command_arguments`.
+//! `read_request` matches the words against the commands (`commands.rt`, of the words in `options.rt`), and reads what
+//! they matched as the `Arguments` of `command_arguments`.
 #![tactic(auto)]
 
 mod bad_words;
@@ -10,9 +10,9 @@ mod help;
 mod options;
 mod parse;
 mod read;
+mod request;
 mod words;
 
 pub use bad_words::BadWord;
 pub use help::VERSION;
-pub use parse::parse_arguments;
-pub use read::{Defaults, Fault, read_arguments, read_options};
+pub use request::{Defaults, Notice, Request, read_request, read_words};

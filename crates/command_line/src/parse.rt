@@ -14,7 +14,10 @@ const OPTIONS: [Word; 3] = [QUIET, VERBOSE, WAIT];
 ///
 /// # Errors
 /// A fault of the command line, or the help or the version, with the text to print and the exit status.
-pub fn parse_arguments<'a>(alloc: Global, words: &'a [String]) -> Result<ArgMatches<'a>, Error> {
+pub(crate) fn parse_arguments<'a>(
+    alloc: Global,
+    words: &'a [String],
+) -> Result<ArgMatches<'a>, Error> {
     program(alloc)?.try_get_matches_from(words)
 }
 

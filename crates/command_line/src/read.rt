@@ -1,6 +1,7 @@
 //! What the words matched, read as the arguments of a command.
 
-use crate::bad_words::{BadWord, Named, find_bad_word, object, size};
+use crate::bad_words::{Named, object, size};
+use crate::request::Defaults;
 use clap::ArgMatches;
 use command_arguments::{
     Arguments, BenchArguments, BenchOrder, ChangeCommand, CheckArguments, CreateArguments,
@@ -9,54 +10,13 @@ use command_arguments::{
     ReportArguments, ReportForm, ScriptArguments, ScriptDevice, ServeArguments, SizedArguments,
     SpaceArguments, SpaceUnit, Verbosity,
 };
-use std::fmt;
 
-/// What stands for words that were not given.
-#[derive(Clone, Copy)]
-pub struct Defaults {
-    /// The moment of a command that people type, in seconds.
-    pub moment: u64,
-    /// The guid of a pool, if one could be drawn.
-    pub guid: Option<u64>,
-}
-
-/// Why words that matched ask for nothing. As text it is what a fault of the command line prints.
-#[derive(Clone, Copy)]
-pub enum Fault<'a> {
-    /// A word has another form than its command takes.
-    BadWord(BadWord<'a>),
-    /// The pool's guid wasn't given, and none could be drawn.
-    NoGuid,
-}
-
-impl fmt::Display for Fault<'_> {
-    fn fmt<W: fmt::Write>(&self, f: &mut fmt::Formatter<W>) -> fmt::Result {
-        match self {
-            Fault::BadWord(bad_word) => write!(f, "{bad_word}"),
-            Fault::NoGuid => f.write_str("error: no guid can be drawn: give one by --guid\n"),
-        }
-    }
-}
-
-/// The arguments of the command that was named.
-///
-/// # Errors
-/// The first word that has to be a number of bytes or an object, and isn't one. And that a new pool lacks a guid.
-pub fn read_arguments<'a>(
+/// The arguments of the command that was named. `None` if a pool's guid is lacking: the words are there that each command
+/// needs.
+pub(crate) fn read_command<'a>(
     matches: &ArgMatches<'a>,
     defaults: &Defaults,
-) -> Result<Arguments<'a>, Fault<'a>> {
-    if let Some(bad_word) = find_bad_word(matches) {
-        return Err(Fault::BadWord(bad_word));
-    }
-    match read_command(matches, defaults) {
-        Some(arguments) => Ok(arguments),
-        None => Err(Fault::NoGuid),
-    }
-}
-
-// `None` if a pool's guid is lacking: the words are there that each command needs.
-fn read_command<'a>(matches: &ArgMatches<'a>, defaults: &Defaults) -> Option<Arguments<'a>> {
+) -> Option<Arguments<'a>> {
     let (name, given) = matches.subcommand()?;
     match name {
         "create" => read_create(given, defaults),
@@ -77,7 +37,7 @@ fn read_command<'a>(matches: &ArgMatches<'a>, defaults: &Defaults) -> Option<Arg
 }
 
 /// What the command is given whichever it is.
-pub fn read_options(matches: &ArgMatches<'_>) -> Options {
+pub(crate) fn read_options(matches: &ArgMatches<'_>) -> Options {
     let verbosity = if matches.get_flag("quiet") {
         Verbosity::Quiet
     } else {

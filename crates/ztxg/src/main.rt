@@ -7,19 +7,14 @@
 mod dispatch;
 
 use command_arguments::Terminals;
-use command_line::{Defaults, parse_arguments, read_arguments, read_options};
+use command_line::{Defaults, Request, read_request, read_words};
 use dispatch::run;
 use std::fs::File;
-use std::io::{self, IsTerminal};
+use std::io::IsTerminal;
 use std::process::ExitCode;
-use std::random::RandomSource;
-use std::time::Clock;
 
 /// The status of a fault of the command line.
 const BAD_ARGUMENTS: u8 = 2;
-
-/// The status of a help or a version that can't be written.
-const UNWRITTEN: u8 = 3;
 
 /// A folder that each system has.
 const FOLDER: &str = "/";
@@ -37,41 +32,15 @@ fn main(rt: HostRuntime) -> ExitCode {
         let _ = eprintln!(rt; "error: invalid UTF-8 was detected in one or more arguments");
         return ExitCode::from(BAD_ARGUMENTS);
     };
-    match parse_arguments(rt.alloc(), words.as_slice()) {
-        Ok(matches) => match read_arguments(&matches, &find_defaults(&rt)) {
-            Ok(arguments) => {
-                let options = read_options(&matches);
-                let terminals = find_terminals(&rt);
-                let status = run(&rt, arguments, options, terminals, &mut rt.stderr());
-                ExitCode::from(status)
-            }
-            Err(fault) => {
-                let _ = eprint!(rt; "{fault}");
-                ExitCode::from(BAD_ARGUMENTS)
-            }
-        },
-        Err(error) => {
-            let printed = error.print(&rt);
-            match error.exit_code() as u8 {
-                0 if printed.is_err() => ExitCode::from(UNWRITTEN),
-                status => ExitCode::from(status),
-            }
+    let defaults = Defaults::of_system(&rt);
+    let status = match read_request(rt.alloc(), words.as_slice(), &defaults) {
+        Ok(Request { arguments, options }) => {
+            let terminals = find_terminals(&rt);
+            run(&rt, arguments, options, terminals, &mut rt.stderr())
         }
-    }
-}
-
-// The clock's seconds since 1970, or 0 if it can't be read. And a guid that is drawn from the system's randomness.
-fn find_defaults(rt: &HostRuntime) -> Defaults {
-    let moment = match rt.since_1970() {
-        Ok(time) => time.as_secs(),
-        Err(_) => 0,
+        Err(notice) => notice.print(&rt),
     };
-    let mut bytes = [0; 8];
-    let guid = match rt.fill_bytes(&mut bytes) {
-        Ok(()) => Some(u64::from_le_bytes(bytes)),
-        Err(_) => None,
-    };
-    Defaults { moment, guid }
+    ExitCode::from(status)
 }
 
 fn find_terminals(rt: &HostRuntime) -> Terminals {
@@ -80,9 +49,4 @@ fn find_terminals(rt: &HostRuntime) -> Terminals {
         output: rt.stdout().is_terminal(),
         errors: rt.stderr().is_terminal(),
     }
-}
-
-fn read_words(rt: &HostRuntime) -> io::Result<Vec<String>> {
-    let words = std::env::args(rt)?.collect(rt.alloc())?;
-    Ok(words)
 }
