@@ -56,6 +56,8 @@ pub struct Request<'a> {
 /// What is printed if the words ask for no command.
 #[derive(Drop)]
 pub enum Notice<'a> {
+    /// A word is no text.
+    NoText,
     /// The help, the version, or a fault of the command line.
     Parsed(Error),
     /// A word has another form than its command takes.
@@ -71,6 +73,10 @@ impl Notice<'_> {
         ensures { result ≤ 3 }
     {
         match self {
+            Notice::NoText => {
+                let _ = eprintln!(rt; "error: invalid UTF-8 was detected in one or more arguments");
+                BAD_ARGUMENTS
+            }
             Notice::Parsed(error) => print_parsed(error, rt),
             Notice::BadWord(bad_word) => {
                 let _ = eprint!(rt; "{bad_word}");
@@ -100,8 +106,15 @@ fn print_parsed<R: Print + Eprint>(error: &Error, rt: &R) -> u8
 /// The program's words, its name first.
 ///
 /// # Errors
-/// The system's, and that a word is no text.
-pub fn read_words<R: Env + AllocGlobal>(rt: &R) -> io::Result<Vec<String>> {
+/// What is printed if a word is no text, or if there is no memory.
+pub fn read_words<R: Env + AllocGlobal>(rt: &R) -> Result<Vec<String>, Notice<'static>> {
+    match collect_words(rt) {
+        Ok(words) => Ok(words),
+        Err(_) => Err(Notice::NoText),
+    }
+}
+
+fn collect_words<R: Env + AllocGlobal>(rt: &R) -> io::Result<Vec<String>> {
     let words = std::env::args(rt)?.collect(rt.alloc())?;
     Ok(words)
 }

@@ -13,9 +13,6 @@ use std::fs::File;
 use std::io::IsTerminal;
 use std::process::ExitCode;
 
-/// The status of a fault of the command line.
-const BAD_ARGUMENTS: u8 = 2;
-
 /// A folder that each system has.
 const FOLDER: &str = "/";
 
@@ -27,10 +24,9 @@ fn main(rt: HostRuntime) -> ExitCode {
         File::open(&rt, FOLDER),
         File::open(&rt, FOLDER),
     ];
-    let Ok(words) = read_words(&rt) else {
-        // Arguments that are no text are a fault of the command line.
-        let _ = eprintln!(rt; "error: invalid UTF-8 was detected in one or more arguments");
-        return ExitCode::from(BAD_ARGUMENTS);
+    let words = match read_words(&rt) {
+        Ok(words) => words,
+        Err(notice) => return ExitCode::from(notice.print(&rt)),
     };
     let defaults = Defaults::of_system(&rt);
     let status = match read_request(rt.alloc(), words.as_slice(), &defaults) {
