@@ -1,11 +1,14 @@
 -- A device on which no pool is found has none, no label of it has a config, and a pool is named after its file.
-use Rattle.std.proofs.Common.{◌≡◌, ◌∷◌, [], ℕ, zero, suc, List, Ok, ap, arith, false, inl, inr, length, map, refl, subst, sym, true}
-use Rattle.std.specs.Prelude.{Bool, IfOk, Option, Result, Some, codes}
+use Rattle.std.proofs.Common.{◌≡◌, ◌≤◌, ◌∷◌, [], ℕ, zero, suc, List, Ok, ap, arith, false, inl, inr, length, map, refl, subst, sym, take, true, ◌∙◌}
+use Rattle.std.specs.Int.{from_le_bytes, w64}
+use Rattle.std.specs.Prelude.{Bool, IfNone, IfOk, None, Option, Result, Some, codes, is_some}
 use Rattle.std.specs.Path.{path_file_name, path_file_stem, rsplit_once, split_last_component, trim_trailing}
 use Rattle.std.specs.Io.KnownBytes.{Appends}
 use Rattle.std.proofs.lemmas.Bool.{or_parts, true≢false}
+use Rattle.std.proofs.lemmas.List.{drop-drop}
 use Rattle.base.specs.declared.error.PoolError.{PoolError}
-use Rattle.base.specs.formats.Geometry.{block_count}
+use Rattle.base.specs.formats.Fields.{number_at}
+use Rattle.base.specs.formats.Geometry.{IsGeometry, block_count}
 use Rattle.base.specs.formats.Labels.{Config, HasNoConfig}
 use Rattle.base.specs.formats.Uberblocks.{Uberblock}
 use Rattle.base.specs.history.Contents.{Contents}
@@ -91,6 +94,24 @@ no_configs image (a ∷ []) are none = absurd (let no : 1 ≡ 4 = ap length are.
 no_configs image (a ∷ b ∷ []) are none = absurd (let no : 2 ≡ 4 = ap length are.labels in omega (arith, no))
 no_configs image (a ∷ b ∷ c ∷ []) are none = absurd (let no : 3 ≡ 4 = ap length are.labels in omega (arith, no))
 no_configs image (a ∷ b ∷ c ∷ d ∷ e ∷ more) are none = absurd (let no : suc (suc (suc (suc (suc (length (map (λ (s : LabelState). s.label) more)))))) ≡ 4 = ap length are.labels in omega (arith, no))
+
+-- a config names the size of its device in its block
+size_named : (block : List ℕ) (size : ℕ) (c : Config) → IsConfigBlock block size c → size ≡ number_at block 72
+unfolding number_at
+size_named block size c is = sym is.fields.size_is ∙ ap (λ (l : List ℕ). from_le_bytes w64 (take 8 l)) (drop-drop 8 64 block)
+
+-- so a block is none if it is none of that size
+pub not_config : {A : Type 0} (block : List ℕ) (o : Option A) (named : ℕ) (found : Bool) → named ≡ number_at block 72 → found ≡ is_some o → IfNone o ((c : Config) → IsConfigBlock block named c → ⊥) → found ≡ false
+    → (size : ℕ) (c : Config) → IsConfigBlock block size c → ⊥
+not_config block None named found is told none off size c config = none c (subst (λ (s : ℕ). IsConfigBlock block s c) (size_named block size c config ∙ sym is) config)
+not_config block (Some x) named found is told none off size c config = absurd (true≢false (sym told ∙ off))
+
+-- a device of 8 MiB and a sector is none of a pool, and has a first config
+pub no_geometry : (size : ℕ) → size ≡ 8389120 → (IsGeometry size → ⊥) × (20480 ≤ size)
+no_geometry size is = (
+  λ geometry. true≢false (sym (subst IsGeometry is geometry)),
+  (let within : 20480 ≤ size = omega (arith, is) in within),
+)
 
 -- what is false if it is so that something is none, is true if that is there
 pub found_if_there : (found : Bool) (There Free : Type 0) → (found ≡ false → Free) → (There → Free → ⊥) → There → found ≡ true

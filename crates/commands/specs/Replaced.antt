@@ -2,8 +2,11 @@
 use Rattle.std.specs.Prelude.{ℕ, ◌<◌, if◌then◌else◌, Bool, false, true, codes, List, None, Option, Some}
 use Rattle.std.specs.List.{list_any}
 use Rattle.std.specs.Path.{path_file_stem}
+use Rattle.base.specs.formats.Fields.{part}
+use Rattle.base.specs.formats.Labels.{Config}
 use Rattle.base.specs.formats.Names.{is_name}
 use Rattle.base.specs.tree.Mount.{HasNoPool}
+use Rattle.labels.specs.Configs.{IsConfigBlock}
 use Rattle.read_commands.specs.FoundLabels.{HasConfig}
 use Rattle.read_commands.specs.declared.label_states.ConfigState.{ConfigState}
 use Rattle.read_commands.specs.declared.label_states.ConfigState.TheVariants.{OtherSize, Unchecked, Whole, Zeroed}
@@ -39,3 +42,8 @@ HasNoConfigs image = (label : ℕ) → label < 4 → HasConfig image label → �
 -- the image has no pool, and no label of one
 abbrev pub IsFree : List ℕ → Type 0
 IsFree image = HasNoPool image × HasNoConfigs image
+
+-- The first label of the image has a config, be it for a device of another size. So it is if a pool's file was cut or
+-- lengthened.
+abbrev pub HasFirstConfig : List ℕ → Type 0
+HasFirstConfig image = (size : ℕ) × (c : Config) × IsConfigBlock (part image 16384 4096) size c

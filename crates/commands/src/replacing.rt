@@ -2,26 +2,28 @@
 //!
 //! 1. With `--size` a pool that is there is replaced with `--force` alone. With a name, a guid and a size it is
 //!    replaced, and standard error says so before.
-//! 2. A file has a pool if a check finds one, finds a damage, or can't end, or if a label has a config. A file of a size
-//!    that no pool may have has none.
+//! 2. A file has a pool if a check finds one, finds a damage, or can't end, or if a label has a config. In a file of a
+//!    size that no pool may have only the first label is looked at: a pool's file may have been cut or lengthened.
 //! 3. The file's lock is released between this test and the making. A file that wasn't there is made as a new one, so
 //!    none is replaced that came meanwhile.
 
 ghost use Rattle.std.specs.Io.KnownBytes.{Appends};
 ghost use Rattle.std.specs.Option.{option_copied};
-ghost use Rattle.std.specs.Prelude.{◌≡◌, ◌≢◌, ◌≤◌, IfErr, IfOk, IsTrue, false, true};
+ghost use Rattle.std.specs.Prelude.{ℕ, ◌≡◌, ◌≢◌, ◌≤◌, IfErr, IfOk, IsTrue, false, true};
 ghost use Rattle.base.specs.disk.Disk.{bytes_of};
 ghost use Rattle.base.specs.formats.Geometry.{IsGeometry, block_count, is_geometry};
+ghost use Rattle.base.specs.formats.Labels.{Config};
 ghost use Rattle.base.specs.formats.Names.{is_name};
-ghost use Rattle.commands.specs.Replaced.{HasNoConfigs, IsFree, is_config, name_of_file, new_name, some_config};
+ghost use Rattle.commands.specs.Replaced.{HasFirstConfig, HasNoConfigs, IsFree, is_config, name_of_file, new_name, some_config};
+ghost use Rattle.labels.specs.Configs.{IsConfigBlock};
 ghost use Rattle.read_commands.specs.Failures.{sector_bytes};
 ghost use Rattle.read_commands.specs.PoolLines.{created_line};
 
 use crate::pool_files::run_create;
-use base::{PoolError, PoolName};
+use base::{BLOCK_SIZE, PoolError, PoolName, read_u64};
 use command_arguments::{CreateArguments, Options, SizedArguments, Verbosity};
 use device_model::{Access, FileRefusal, HeldFile, SectorDevice};
-use labels::{Geometry, SECTOR_SIZE};
+use labels::{Geometry, LabelConfig, SECTOR_SIZE};
 use read_commands::{
     ConfigState, Failure, FileName, Finding, LabelState, check_pool, open_within, read_states,
     report_failure,
@@ -35,6 +37,15 @@ use std::sync::Wait;
 
 /// The name of a pool whose file has a name that no pool may have.
 const OTHER_NAME: &str = "pool";
+
+/// Where the first label has its config, on a device of whatever size.
+const FIRST_CONFIG_AT: u64 = 16_384;
+
+/// How many sectors a device has at least that has it.
+const FIRST_CONFIG_SECTORS: u64 = 40;
+
+/// Where the block of a config has the size of its device.
+const SIZE_AT: usize = 72;
 
 /// Makes a pool in a file as `run_create` does. If the file has a pool, `errors` has a line that says so before, unless
 /// it is to be quiet. Returns the exit status.
@@ -240,12 +251,38 @@ pub(crate) fn has_pool<D: SectorDevice>(alloc: Global, device: &mut D) -> bool
     ensures unchanged { IsTrue D.keeps_model → D.disk device.new ≡ D.disk device.old }
     ensures free { result ≡ false → IsTrue D.keeps_model → IsGeometry (D.size device.old)
         → IsFree (bytes_of (D.disk device.old).now) }
+    ensures no_label { result ≡ false → IsTrue D.keeps_model
+        → (IsGeometry (D.size device.old) → ⊥) → 20480 ≤ D.size device.old
+        → HasFirstConfig (bytes_of (D.disk device.old).now) → ⊥ }
 {
     match check_pool(alloc, device) {
         Ok(Finding::NoPool) => has_config(device),
-        Err(PoolError::BadGeometry) => false,
+        Err(PoolError::BadGeometry) => has_first_config(device),
         _ => true,
     }
+}
+
+// Whether the first label of a device has a config, be it for a device of another size, or can't be read.
+fn has_first_config<D: SectorDevice>(device: &mut D) -> bool
+    ensures unchanged { IsTrue D.keeps_model → D.disk device.new ≡ D.disk device.old }
+    ensures none { result ≡ false → IsTrue D.keeps_model → 20480 ≤ D.size device.old
+        → HasFirstConfig (bytes_of (D.disk device.old).now) → ⊥ }
+{
+    if device.sectors() < FIRST_CONFIG_SECTORS {
+        return false;
+    }
+    let mut block = [0; BLOCK_SIZE];
+    match device.read(FIRST_CONFIG_AT, &mut block[..]) {
+        Ok(()) => is_config_block(&block),
+        Err(_) => true,
+    }
+}
+
+// Whether a block is a config, on a device of the size that it names.
+fn is_config_block(block: &[u8; BLOCK_SIZE]) -> bool
+    ensures { result ≡ false → (size : ℕ) (c : Config) → IsConfigBlock block.now size c → ⊥ }
+{
+    LabelConfig::decode(block, read_u64(block, SIZE_AT)).is_some()
 }
 
 // Whether a label of a device has a config, be it for a device of another size, or can't be read.

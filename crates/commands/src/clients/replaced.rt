@@ -2,9 +2,12 @@
 
 ghost use Rattle.std.specs.Prelude.{ℕ, ◌≡◌, ◌<◌, [], IfOk, IsTrue, Some, codes, slice_get, true};
 ghost use Rattle.base.specs.disk.Disk.{bytes_of};
+ghost use Rattle.base.specs.formats.Fields.{part};
 ghost use Rattle.base.specs.formats.Geometry.{IsGeometry};
+ghost use Rattle.base.specs.formats.Labels.{Config};
 ghost use Rattle.base.specs.history.Contents.{Contents};
 ghost use Rattle.base.specs.tree.Mount.{IsTreeDamaged, MountsTo};
+ghost use Rattle.labels.specs.Configs.{IsConfigBlock};
 ghost use Rattle.read_commands.specs.FoundLabels.{HasConfig};
 
 use super::{BRIEF, OPTIONS};
@@ -125,6 +128,19 @@ fn a_damaged_pool_is_there<D: SectorDevice>(alloc: Global, device: &mut D) -> bo
 fn a_pool_of_which_a_label_is_left_is_there<D: SectorDevice>(alloc: Global, device: &mut D) -> bool
     requires { IsGeometry (D.size device.old) }
     ensures { IsTrue D.keeps_model → HasConfig (bytes_of (D.disk device.old).now) 2
+        → result ≡ true }
+{
+    has_pool(alloc, device)
+}
+
+// Its first label has a config of 8 MiB.
+fn a_pool_that_was_lengthened_by_a_sector_is_there<D: SectorDevice>(
+    alloc: Global,
+    device: &mut D,
+) -> bool
+    requires { D.size device.old ≡ 8389120 }
+    ensures { IsTrue D.keeps_model → (c : Config)
+        → IsConfigBlock (part (bytes_of (D.disk device.old).now) 16384 4096) 8388608 c
         → result ≡ true }
 {
     has_pool(alloc, device)
