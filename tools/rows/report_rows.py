@@ -138,8 +138,15 @@ def sized_rows(judge, sync, flawed):
         file.seek(SIZE - LABEL + CONFIG_AT + BLOCK)
         file.write(bytes(LABEL - CONFIG_AT - BLOCK))
     judge.ends(["show", lone], 1, errors="ztxg: refused 6 NoPool\n")
-    for name in (damaged, lone):
+    # So is a pool whose file was cut or lengthened, also to a size that no pool may have.
+    sizes = (LABEL, 6 * MIB, SIZE - 512, SIZE + 512, 16 * MIB)
+    resized = [judge.make(f"sized/resized_{size}.pool") for size in sizes]
+    for name, size in zip(resized, sizes):
+        os.truncate(name, size)
+    for name in (damaged, lone, *resized):
         judge.ends(["create", name, "--size", "8M"], 3, errors=f"ztxg: cannot use {name}\n")
+    os.truncate(resized[0], CONFIG_AT)
+    judge.ends(["create", resized[0], "--size", "8M", "--name", "a"], 0, "created a 896 blocks\n", quiet=False)
     judge.ends([*words, "8M", "--force"], 0, "created pond 896 blocks\n", quiet=False)
     other = "sized/pond.pool"
     judge.ends(["create", other, "pond", "5", "8388608", "--moment", "7"], 0, "created pond 896 blocks\n", quiet=False)
