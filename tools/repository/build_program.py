@@ -21,8 +21,8 @@ TESTS = "engine_checks"
 # The line of each program in crates.txt.
 PROGRAMS = {
     "durable_load": "durable_load: anyhow topzerad loads rand_pcg",
-    TESTS: f"{TESTS} tests_may=Threads+Wait: base device_model hash_lanes checked_blocks uberblocks records"
-    " intent_log object_maps log_replay import_replay inspections word_lock pool_threads loads",
+    TESTS: f"{TESTS} tests_may=Threads+Wait: base device_model file_devices hash_lanes checked_blocks uberblocks"
+    " records intent_log object_maps log_replay import_replay inspections word_lock pool_threads loads",
     "flush_counts": "flush_counts may_wait=9: anyhow topzerad",
     "hash_blocks": "hash_blocks: anyhow sha2",
     "idle_loops": "idle_loops: anyhow topzerad",

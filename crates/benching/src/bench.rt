@@ -14,7 +14,7 @@ use crate::bad_bench::BadBench;
 use crate::lines::write_measured;
 use crate::new_pool::{Unmeasured, measure_in_file};
 use command_arguments::{BenchArguments, Options, Verbosity};
-use device_model::HeldFile;
+use file_devices::HeldFile;
 use read_commands::{Failure, report_failure, report_refusal};
 use script_lines::FAILED;
 use std::io::{self, Write};

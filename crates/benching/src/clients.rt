@@ -5,7 +5,7 @@ ghost use Rattle.std.specs.Prelude.{◌≡◌, ◌++◌, [], List, ℕ, Some, co
 
 use crate::bench::run_bench;
 use command_arguments::{BenchArguments, BenchOrder, Options, Verbosity};
-use device_model::HeldFile;
+use file_devices::HeldFile;
 use std::io::Write;
 use std::os::unix::fs::FileExt;
 use std::rt::{Clock, Files};

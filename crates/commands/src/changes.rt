@@ -26,7 +26,8 @@ use base::{
 };
 use closed_pools::{close_alone, open_alone};
 use command_arguments::{PutArguments, RemoveArguments, Verbosity};
-use device_model::{FileRefusal, SectorDevice};
+use device_model::SectorDevice;
+use file_devices::FileRefusal;
 use pool_threads::{Handle, LastSeen, OwnedPool, PIECE_SIZE};
 use read_commands::{BadNumber, Failure, NotesRefusals, report_failure};
 use std::alloc::{AllocError, Global};

@@ -11,7 +11,7 @@ ghost use Rattle.std.specs.Prelude.{◌≡◌, [], Some, codes};
 
 use crate::pool_files::run_create;
 use command_arguments::{CreateArguments, Options, Verbosity};
-use device_model::HeldFile;
+use file_devices::HeldFile;
 use std::io::Write;
 use std::os::unix::fs::FileExt;
 use std::rt::Files;

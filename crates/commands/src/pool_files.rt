@@ -14,7 +14,8 @@ ghost use Rattle.read_commands.specs.PoolLines.{created_line};
 
 use base::{MAX_NAME, PoolError, PoolName};
 use command_arguments::{CreateArguments, Options, Verbosity};
-use device_model::{HeldFile, SectorDevice};
+use device_model::SectorDevice;
+use file_devices::HeldFile;
 use import_replay::create;
 use labels::{Geometry, LABEL_SIZE, MAX_SIZE, MIN_SIZE, SECTOR_SIZE};
 use read_commands::{Failure, NewFile, NotesRefusals, Quoted, report_failure, report_refusal};

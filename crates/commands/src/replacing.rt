@@ -22,7 +22,8 @@ ghost use Rattle.read_commands.specs.PoolLines.{created_line};
 use crate::pool_files::run_create;
 use base::{BLOCK_SIZE, PoolError, PoolName, read_u64};
 use command_arguments::{CreateArguments, Options, SizedArguments, Verbosity};
-use device_model::{Access, FileRefusal, HeldFile, SectorDevice};
+use device_model::SectorDevice;
+use file_devices::{Access, FileRefusal, HeldFile};
 use labels::{Geometry, LabelConfig, SECTOR_SIZE};
 use read_commands::{
     ConfigState, Failure, FileName, Finding, LabelState, check_pool, open_within, read_states,

@@ -5,4 +5,3 @@ pub mod Tracks
 pub mod Sound
 pub mod Left
 pub mod AfterCalls
-pub mod ShownDisks

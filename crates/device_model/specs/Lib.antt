@@ -1,6 +1,5 @@
 pub mod Certain
 pub mod MemState
-pub mod FileState
 pub mod Plans
 pub mod Notes
 pub mod Memory

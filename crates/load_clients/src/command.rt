@@ -3,7 +3,8 @@
 ghost use Rattle.std.specs.Prelude.{◌≡◌};
 
 use command_arguments::{LoadArguments, Order, Verbosity};
-use device_model::{FileRefusal, SectorDevice};
+use device_model::SectorDevice;
+use file_devices::FileRefusal;
 use loading::run_load;
 use read_commands::NotesRefusals;
 use std::io::{Eprint, Write};

@@ -9,7 +9,8 @@ ghost use Rattle.command_arguments.specs.Orders.{is_order};
 
 use base::{ObjectId, PoolError, Reply};
 use command_arguments::{LoadArguments, Order, STREAMS, Verbosity};
-use device_model::{FileRefusal, SectorDevice};
+use device_model::SectorDevice;
+use file_devices::FileRefusal;
 use loads::{Gate, Loaded, WRITES_BETWEEN_WAITS, load};
 use pool_threads::Pool;
 use read_commands::{BadNumber, Failure, NotesRefusals, report_failure};

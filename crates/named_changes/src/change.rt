@@ -6,7 +6,7 @@ use crate::puts::run_put_named;
 use crate::removals::run_remove_named;
 use command_arguments::{ChangeCommand, Options, Terminals};
 use commands::{read_input, run_create_over, run_create_sized, run_put, run_remove};
-use device_model::{Access, HeldFile};
+use file_devices::{Access, HeldFile};
 use read_commands::open_within;
 use std::io::{self, Write};
 use std::os::unix::fs::FileExt;

@@ -18,7 +18,7 @@ ghost use Rattle.tree_blocks.specs.Sources.{object_bytes};
 use crate::change::run_change;
 use crate::laws::{new_names_are_written, removed_names_are_gone};
 use command_arguments::{ChangeCommand, Options, Terminals, Verbosity};
-use device_model::HeldFile;
+use file_devices::HeldFile;
 use std::io::Write;
 use std::os::unix::fs::FileExt;
 use std::rt::Files;

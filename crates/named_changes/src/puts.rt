@@ -24,7 +24,8 @@ use command_arguments::{PutNamedArguments, Verbosity};
 use commands::{
     Put, STANDARD_INPUT, Target, bad_number_of, is_target, put_and_sync, report_committed,
 };
-use device_model::{FileRefusal, SectorDevice};
+use device_model::SectorDevice;
+use file_devices::FileRefusal;
 use named_reads::{NameCause, NameFailure, report_name_failure};
 use object_names::is_object_name;
 use pool_threads::Pool;

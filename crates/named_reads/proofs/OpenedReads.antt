@@ -6,7 +6,7 @@ use Rattle.base.specs.declared.names.ObjectId.{ObjectId}
 use Rattle.base.specs.declared.range.Range.{Range}
 use Rattle.base.specs.disk.Disk.{Disk, bytes_of}
 use Rattle.device_model.specs.declared.device.SectorDevice.{Ghosts}
-use Rattle.device_model.specs.declared.held_file.FileRefusal.{FileRefusal}
+use Rattle.file_devices.specs.declared.held_file.FileRefusal.{FileRefusal}
 use Rattle.object_names.specs.NameTables.{IsNamed}
 use Rattle.read_commands.specs.Checks.{IsOnlyRead}
 use Rattle.read_commands.specs.Reads.{WritesMounted}

@@ -15,7 +15,7 @@ use Rattle.base.specs.formats.Geometry.{IsGeometry}
 use Rattle.base.specs.history.Contents.{Contents}
 use Rattle.device_model.specs.Reading.{OnlyReads}
 use Rattle.device_model.specs.declared.device.SectorDevice.{Ghosts}
-use Rattle.device_model.specs.declared.held_file.FileRefusal.{FileRefusal}
+use Rattle.file_devices.specs.declared.held_file.FileRefusal.{FileRefusal}
 use Rattle.inspections.specs.Inspections.{mount_of}
 use Rattle.inspections.specs.Refused.{IsInspectionRefused}
 use Rattle.inspections.specs.PoolDamages.{IsOfNoDamage, IsSoundnessOf}

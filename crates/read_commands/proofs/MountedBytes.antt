@@ -13,7 +13,7 @@ use Rattle.base.specs.declared.names.ObjectId.{ObjectId}
 use Rattle.base.specs.declared.range.Range.{Range}
 use Rattle.base.specs.history.Contents.{Contents}
 use Rattle.base.proofs.crash.OneMount.{mounts_agree}
-use Rattle.device_model.specs.declared.held_file.FileRefusal.{FileRefusal}
+use Rattle.file_devices.specs.declared.held_file.FileRefusal.{FileRefusal}
 use Rattle.mounted.specs.Ranges.{is_readable}
 use Rattle.tree_blocks.specs.Sources.{object_length, range_in}
 use Rattle.read_commands.specs.Reads.{IsMountedRange, WritesMounted}

@@ -9,7 +9,7 @@ use Rattle.base.specs.declared.refused.RefusedCalls.{RefusedCalls}
 use Rattle.base.specs.disk.Calls.{with_refusal}
 use Rattle.base.specs.disk.Disk.{bytes_of}
 use Rattle.device_model.specs.declared.device.SectorDevice.{Ghosts}
-use Rattle.device_model.specs.declared.held_file.FileRefusal.{FileRefusal}
+use Rattle.file_devices.specs.declared.held_file.FileRefusal.{FileRefusal}
 use Rattle.inspections.specs.Refused.{IsInspectionRefusal}
 use Rattle.inspections.specs.Views.{IsViewRefusal}
 use Rattle.read_commands.specs.Checks.{StaysOpened}

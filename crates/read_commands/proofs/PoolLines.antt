@@ -13,7 +13,7 @@ use Rattle.base.specs.formats.Geometry.{block_count}
 use Rattle.base.specs.history.Contents.{Contents}
 use Rattle.base.proofs.crash.OneMount.{mounts_agree}
 use Rattle.device_model.specs.declared.device.SectorDevice.{Ghosts}
-use Rattle.device_model.specs.declared.held_file.FileRefusal.{FileRefusal}
+use Rattle.file_devices.specs.declared.held_file.FileRefusal.{FileRefusal}
 use Rattle.inspections.specs.Inspections.{AgreesWithImports, IsInspectionOf, IsToldOf}
 use Rattle.inspections.specs.declared.inspection.Inspected.{Inspected}
 use Rattle.read_commands.specs.Failures.{sector_bytes}

@@ -8,7 +8,7 @@ use Rattle.base.specs.formats.Geometry.{IsGeometry}
 use Rattle.base.specs.tree.Mount.{HasNoPool, IsChainDamaged, IsMounted, Mount, MountsTo}
 use Rattle.base.specs.history.Contents.{Contents}
 use Rattle.device_model.specs.declared.device.SectorDevice.{Ghosts}
-use Rattle.device_model.specs.declared.held_file.FileRefusal.{FileRefusal}
+use Rattle.file_devices.specs.declared.held_file.FileRefusal.{FileRefusal}
 use Rattle.import_replay.specs.ImportRefusals.{IsDamagedWith}
 use Rattle.inspections.specs.declared.inspection.Inspected.{Inspected}
 use Rattle.read_commands.specs.declared.checks.Finding.{Finding}

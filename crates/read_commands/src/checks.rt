@@ -11,7 +11,8 @@ ghost use Rattle.read_commands.specs.declared.checks.Finding.{Finding as ShownFi
 use crate::failure::{Failure, NotesRefusals, report_failure};
 use base::{Group, PoolError};
 use command_arguments::Verbosity;
-use device_model::{FileRefusal, SectorDevice};
+use device_model::SectorDevice;
+use file_devices::FileRefusal;
 use inspections::{Inspected, inspect};
 use script_lines::REFUSED;
 use std::alloc::Global;

@@ -17,7 +17,8 @@ use crate::failure::{Failure, NotesRefusals, report_failure};
 use crate::show::run_show;
 use base::PoolError;
 use command_arguments::Verbosity;
-use device_model::{FileRefusal, SectorDevice};
+use device_model::SectorDevice;
+use file_devices::FileRefusal;
 use std::alloc::Global;
 use std::io::Write;
 

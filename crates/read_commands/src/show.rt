@@ -10,7 +10,8 @@ ghost use Rattle.read_commands.specs.PoolLines.{WritesInspected, listed_lines, n
 use crate::failure::{Failure, NotesRefusals, report_failure};
 use base::ObjectId;
 use command_arguments::Verbosity;
-use device_model::{FileRefusal, SectorDevice};
+use device_model::SectorDevice;
+use file_devices::FileRefusal;
 use inspections::{Inspected, inspect};
 use std::alloc::Global;
 use std::io::{self, Write};

@@ -1,7 +1,7 @@
 //! Opening a file that another process may have. It tries again for a time, since a lock of a file can't be waited for
 //! with an end.
 
-use device_model::{Access, FileDevice, FileRefusal, HeldFile};
+use file_devices::{Access, FileDevice, FileRefusal, HeldFile};
 use std::os::unix::fs::FileExt;
 use std::rt::Files;
 use std::sync::Wait;

@@ -5,7 +5,7 @@ use Rattle.std.specs.Io.KnownBytes.{Appends}
 use Rattle.std.specs.Prelude.{IfOk, Option, Some, codes}
 use Rattle.base.specs.disk.Disk.{bytes_of}
 use Rattle.device_model.specs.declared.device.SectorDevice.{Ghosts}
-use Rattle.device_model.specs.declared.held_file.FileRefusal.{FileRefusal}
+use Rattle.file_devices.specs.declared.held_file.FileRefusal.{FileRefusal}
 use Rattle.read_commands.specs.Checks.{IsFoundIn, finding_status}
 use Rattle.read_commands.specs.FoundDamages.{AreFoundIn, all_status}
 use Rattle.read_commands.specs.FoundLabels.{AreLabelStates, HasConfig}

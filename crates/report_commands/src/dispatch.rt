@@ -11,7 +11,8 @@ use command_arguments::{
     CheckArguments, ListArguments, ListForm, Options, ReadCommand, ReportArguments, ReportForm,
     SpaceArguments, Verbosity,
 };
-use device_model::{Access, FileRefusal, HeldFile, SectorDevice};
+use device_model::SectorDevice;
+use file_devices::{Access, FileRefusal, HeldFile};
 use named_reads::{run_get_named, run_list_named};
 use read_commands::{
     NotesRefusals, open_within, run_check, run_check_all, run_get, run_labels, run_show,

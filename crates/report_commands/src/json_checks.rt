@@ -12,7 +12,8 @@ ghost use Rattle.read_commands.specs.declared.checks.Finding.{Finding as ShownFi
 ghost use Rattle.report_commands.specs.Json.{PrintsFinding, PrintsFindings, json_damages, json_findings, json_comma, json_found, json_labels, json_lost, json_more, json_reasons, json_state};
 
 use command_arguments::Verbosity;
-use device_model::{FileRefusal, SectorDevice};
+use device_model::SectorDevice;
+use file_devices::FileRefusal;
 use read_commands::{
     ConfigState, Failure, Finding, Found, LabelState, NotesRefusals, check_opened, find_opened,
     is_some_whole, is_whole, report_failure,

@@ -8,7 +8,8 @@ ghost use Rattle.report_commands.specs.JsonLabels.{PrintsLabels};
 
 use base::Group;
 use command_arguments::Verbosity;
-use device_model::{FileRefusal, SectorDevice};
+use device_model::SectorDevice;
+use file_devices::FileRefusal;
 use read_commands::{
     ConfigFound, Failure, Labels, NotesRefusals, read_opened_labels, report_failure,
 };

@@ -13,7 +13,8 @@ ghost use Rattle.report_commands.specs.Json.{json_listed, json_next, json_number
 use crate::object_blocks::most_blocks;
 use base::ObjectId;
 use command_arguments::Verbosity;
-use device_model::{FileRefusal, SectorDevice};
+use device_model::SectorDevice;
+use file_devices::FileRefusal;
 use inspections::Inspected;
 use read_commands::{Failure, NotesRefusals, inspect_opened, report_failure};
 use std::alloc::Global;

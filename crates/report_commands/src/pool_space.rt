@@ -12,7 +12,8 @@ ghost use Rattle.report_commands.specs.Space.{block_bytes, letter_of, pool_space
 
 use base::{BLOCK_SIZE, KEPT_BACK};
 use command_arguments::{SpaceArguments, SpaceUnit, Verbosity};
-use device_model::{FileRefusal, SectorDevice};
+use device_model::SectorDevice;
+use file_devices::FileRefusal;
 use inspections::Inspected;
 use read_commands::{Failure, NotesRefusals, inspect_opened, report_failure};
 use std::alloc::Global;

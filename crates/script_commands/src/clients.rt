@@ -5,7 +5,7 @@ ghost use Rattle.std.specs.Prelude.{◌≡◌, ◌≢◌};
 
 use crate::script::run_opened;
 use command_arguments::{Options, ScriptArguments, ScriptDevice, Verbosity};
-use device_model::HeldFile;
+use file_devices::HeldFile;
 use std::io::{self, ErrorKind, Read, Write};
 use std::os::unix::fs::FileExt;
 use std::rt::Files;

@@ -6,7 +6,7 @@ ghost use Rattle.std.specs.Prelude.{◌≡◌, ◌≢◌, ◌≤◌, ◌⊎◌, 
 use crate::noted_session::NotedSession;
 use base::PoolError;
 use command_arguments::{Options, ScriptArguments, ScriptDevice, Verbosity};
-use device_model::{Access, FileDevice, FileRefusal, HeldFile, SectorFile};
+use file_devices::{Access, FileDevice, FileRefusal, HeldFile, SectorFile};
 use read_commands::{Failure, open_within, report_failure};
 use scripts::{AfterRefusal, FileSession, run_script_with};
 use shared_scripts::SharedSession;

@@ -6,7 +6,8 @@ use crate::device_session::{DeviceSession, FileSession};
 use crate::mounted_pool::MountedPool;
 use crate::session::BadCommand;
 use base::Piece;
-use device_model::{Fault, FileDevice, SectorDevice, SectorFile};
+use device_model::{Fault, SectorDevice};
+use file_devices::{FileDevice, SectorFile};
 use script_lines::{Answer, Command, PoolCommand};
 use std::alloc::Global;
 

@@ -8,7 +8,7 @@ use Rattle.std.proofs.lemmas.Bool.{false≢true}
 use Rattle.base.specs.declared.error.PoolError.{PoolError}
 use Rattle.base.specs.declared.names.Group.{Group}
 use Rattle.device_model.specs.declared.device.SectorDevice.{Ghosts}
-use Rattle.device_model.specs.declared.held_file.FileRefusal.{FileRefusal}
+use Rattle.file_devices.specs.declared.held_file.FileRefusal.{FileRefusal}
 use Rattle.frame_answers.specs.Serving.{AnswersFrames, BeginsWithFrames, EndsWell, Exchange, ServesFrames, Streams, answers_of, frames_of, program}
 use Rattle.frame_answers.specs.declared.serving.Ending.{Ending}
 use Rattle.frame_answers.specs.declared.serving.Ending.TheVariants.{Done, NoMemory, WriteFailed}

@@ -5,7 +5,7 @@ use Rattle.base.specs.declared.error.PoolError.{PoolError}
 use Rattle.base.specs.declared.names.Group.{Group}
 use Rattle.base.specs.kept.Imports.{are_limits_allowed}
 use Rattle.device_model.specs.declared.device.SectorDevice.{Ghosts}
-use Rattle.device_model.specs.declared.held_file.FileRefusal.{FileRefusal}
+use Rattle.file_devices.specs.declared.held_file.FileRefusal.{FileRefusal}
 use Rattle.frame_answers.specs.Serving.{BeginsWithFrames, EndsWell, Exchange, ServesFrames, Streams, program}
 use Rattle.frame_answers.specs.Written.{AppendsFront}
 use Rattle.frame_answers.specs.declared.serving.Ending.{Ending}

@@ -21,7 +21,8 @@ ghost use Rattle.pool_threads.specs.declared.pool.Pool as pools;
 
 use crate::serving::{report_terminal, run_serve, serve_on};
 use command_arguments::{ServeArguments, Verbosity};
-use device_model::{FileRefusal, MemDevice, SectorDevice};
+use device_model::{MemDevice, SectorDevice};
+use file_devices::FileRefusal;
 use read_commands::NotesRefusals;
 use std::io::Write;
 use std::sync::Wait;

@@ -9,7 +9,8 @@ ghost use Rattle.frames.specs.Openings.{bytes_of_opening};
 ghost use Rattle.pool_threads.specs.Handles.{opened_in};
 
 use base::PoolError;
-use device_model::{CallCause, FileRefusal, SectorDevice};
+use device_model::SectorDevice;
+use file_devices::{CallCause, FileRefusal};
 use frame_answers::{Ending, write_frame};
 use frames::{Opening, encode_opening, encode_unopened};
 use pool_threads::Pool;

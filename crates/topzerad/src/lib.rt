@@ -94,9 +94,9 @@ pub use base::{
     Plan, PoolError, PoolName, Range, Receipt, RefusedCalls, Reply, SECTOR_SIZE, Shape, Status,
     Step, TxId, is_name,
 };
-pub use device_model::{
-    Access, CallCause, Fault, FileCall, FileDevice, FileRefusal, HeldFile, MemDevice, RefusedCall,
-    SectorDevice, SectorFile,
+pub use device_model::{Fault, MemDevice, SectorDevice};
+pub use file_devices::{
+    Access, CallCause, FileCall, FileDevice, FileRefusal, HeldFile, RefusedCall, SectorFile,
 };
 pub use import_replay::{Imported, create, import, import_with};
 pub use inspections::{Inspected, Soundness, View, find_damages, inspect, view_pool};

@@ -4,7 +4,7 @@ ghost use Rattle.std.specs.Prelude.{◌≤◌};
 
 use benching::run_bench;
 use command_arguments::{Arguments, Options, Terminals};
-use device_model::{Access, HeldFile};
+use file_devices::{Access, HeldFile};
 use loading::run_load;
 use named_changes::run_change;
 use read_commands::open_within;

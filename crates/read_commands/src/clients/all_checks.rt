@@ -14,7 +14,8 @@ use crate::check_all::{check_to_end, run_check_all};
 use crate::checks::Finding;
 use crate::failure::NotesRefusals;
 use base::PoolError;
-use device_model::{FileRefusal, SectorDevice};
+use device_model::SectorDevice;
+use file_devices::FileRefusal;
 use std::alloc::Global;
 use std::io::Write;
 

@@ -12,7 +12,8 @@ use crate::label_lines::run_labels;
 use crate::reads::run_get;
 use crate::show::run_list;
 use command_arguments::GetArguments;
-use device_model::{FileRefusal, SectorDevice};
+use device_model::SectorDevice;
+use file_devices::FileRefusal;
 use std::alloc::Global;
 use std::io::{self, Write};
 

@@ -10,7 +10,8 @@ ghost use Rattle.read_commands.specs.declared.checks.Finding.TheVariants.{Damage
 
 use super::BRIEF;
 use crate::json_checks::{run_json_check, run_json_check_all};
-use device_model::{FileRefusal, SectorDevice};
+use device_model::SectorDevice;
+use file_devices::FileRefusal;
 use read_commands::NotesRefusals;
 use std::alloc::Global;
 use std::io::Write;

@@ -1,5 +1,5 @@
 use Rattle.std.proofs.Common.{Bool, ap, subst, sym, ◌∙◌}
-use Rattle.device_model.specs.FileState.{size_of}
+use Rattle.file_devices.specs.FileState.{size_of}
 use Rattle.std.proofs.Math.Logic.{∥∥₁_map}
 use Rattle.scripts.proofs.OwnRuns.{begins_run}
 use Rattle.scripts.specs.OwnPools.{BeginsRun}

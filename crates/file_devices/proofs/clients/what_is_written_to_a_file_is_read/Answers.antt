@@ -3,7 +3,7 @@ use Rattle.std.proofs.lemmas.Result.{on_ok_weaker}
 use Rattle.base.specs.formats.Fields.{part}
 use Rattle.base.specs.disk.Disk.{bytes_of}
 use Rattle.device_model.proofs.AfterCalls.{read_after}
-use Rattle.device_model.proofs.clients.what_is_written_to_a_file_is_read.Goals as goal
+use Rattle.file_devices.proofs.clients.what_is_written_to_a_file_is_read.Goals as goal
 
 pub returns : goal.returns
 returns g c =

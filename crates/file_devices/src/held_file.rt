@@ -10,12 +10,12 @@
 //! The lock is advisory (`flock`): a process that opens the file without taking it isn't kept out.
 
 ghost use Rattle.std.specs.Prelude.{◌≡◌, IfOk, IsOk, OnOk};
-ghost use Rattle.device_model.specs.FileState.{HasSectorsOf, none_refused, size_of};
+ghost use Rattle.file_devices.specs.FileState.{HasSectorsOf, none_refused, size_of};
 
-use crate::device::SectorDevice;
 use crate::file::FileDevice;
 use crate::sector_file::SectorFile;
 use base::SECTOR_SIZE;
+use device_model::SectorDevice;
 use std::fs::{File, OpenFile, OpenOptions, TryLockError};
 use std::io;
 use std::path::Path;
@@ -53,7 +53,7 @@ pub enum FileRefusal {
 
 /// A file whose lock a device can hold until the file is closed.
 pub trait HeldFile {
-    ghost use Rattle.device_model.specs.declared.held_file.Access.{Access};
+    ghost use Rattle.file_devices.specs.declared.held_file.Access.{Access};
 
     /// Whether the file's lock is held for this access. Of a system's file nothing is claimed.
     ghost is_held: { Self → Access → Type 0 };

@@ -5,9 +5,9 @@ use Rattle.base.specs.disk.Disk.{Disk, HasEarlierWrites, disk_size}
 use Rattle.base.specs.formats.Geometry.{sector_size}
 use Rattle.base.specs.declared.refused.RefusedCalls.{RefusedCalls}
 use Rattle.device_model.specs.MemState.{blank}
-use Rattle.device_model.specs.declared.refused_call.CallCause.{CallCause}
-use Rattle.device_model.specs.declared.refused_call.FileCall.{FileCall}
-use Rattle.device_model.specs.declared.refused_call.RefusedCall.{RefusedCall}
+use Rattle.file_devices.specs.declared.refused_call.CallCause.{CallCause}
+use Rattle.file_devices.specs.declared.refused_call.FileCall.{FileCall}
+use Rattle.file_devices.specs.declared.refused_call.RefusedCall.{RefusedCall}
 
 -- its size in bytes, how many calls of each kind it refused, the last of these, and the disk that the file shows
 pub record FileState : Type 0 where

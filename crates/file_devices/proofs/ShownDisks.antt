@@ -6,9 +6,9 @@ use Rattle.base.specs.disk.Disk.{Disk, bytes_of, disk_size, written}
 use Rattle.base.proofs.disk.EarlierWrites.{earlier_flushes, earlier_writes}
 use Rattle.base.proofs.disk.Put.{length-put}
 use Rattle.base.proofs.disk.Regions.{flushed_clean}
-use Rattle.device_model.specs.FileState.{FileState, NotesLast, ShowsDisk, size_of}
-use Rattle.device_model.specs.declared.refused_call.FileCall.{FileCall}
-use Rattle.device_model.specs.declared.refused_call.RefusedCall.{RefusedCall}
+use Rattle.file_devices.specs.FileState.{FileState, NotesLast, ShowsDisk, size_of}
+use Rattle.file_devices.specs.declared.refused_call.FileCall.{FileCall}
+use Rattle.file_devices.specs.declared.refused_call.RefusedCall.{RefusedCall}
 use Rattle.std.specs.Prelude.{OnOk}
 
 size-written : (place : ℕ) (content : List ℕ) (done : Bool) (disk : Disk) → place + length content ≤ disk_size disk → disk_size (written place content done disk) ≡ disk_size disk

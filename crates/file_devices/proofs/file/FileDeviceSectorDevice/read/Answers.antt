@@ -1,6 +1,6 @@
 use Rattle.std.proofs.Common.{ap, refl}
-use Rattle.device_model.specs.FileState.{FileState}
-use Rattle.device_model.proofs.file.FileDeviceSectorDevice.read.Goals as goal
+use Rattle.file_devices.specs.FileState.{FileState}
+use Rattle.file_devices.proofs.file.FileDeviceSectorDevice.read.Goals as goal
 
 pub returns-in-Err-clause-last : goal.returns-in-Err-clause-last
 returns-in-Err-clause-last g c = (c.in-Err.cause, refl)

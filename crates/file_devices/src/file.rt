@@ -14,12 +14,12 @@
 ghost use Rattle.std.specs.Prelude.{◌≡◌, ◌*◌, Bool, IfErr, IfOk, IsTrue, None, length};
 ghost use Rattle.base.specs.disk.Calls.{Flushes, IsOnDevice, Writes};
 ghost use Rattle.base.specs.disk.Disk.{disk_size};
-ghost use Rattle.device_model.specs.FileState.{none_refused, refused_as};
+ghost use Rattle.file_devices.specs.FileState.{none_refused, refused_as};
 
-use crate::device::SectorDevice;
 use crate::refused_call::{CallCause, FileCall, RefusedCall};
 use crate::sector_file::SectorFile;
 use base::{PoolError, RefusedCalls};
+use device_model::SectorDevice;
 use std::fs::File;
 use std::marker::Model;
 
@@ -45,7 +45,7 @@ pub struct FileDevice<F: SectorFile + Drop = File> {
 impl<F: SectorFile + Drop> Model for FileDevice<F> {
     ghost use Rattle.std.specs.Prelude.{◌*◌, IsTrue};
     ghost use Rattle.base.specs.formats.Geometry.{sector_size};
-    ghost use Rattle.device_model.specs.FileState.{FileState, IsSoundFile};
+    ghost use Rattle.file_devices.specs.FileState.{FileState, IsSoundFile};
 
     ghost Value = { FileState };
 
@@ -99,7 +99,7 @@ impl<F: SectorFile + Drop> FileDevice<F> {
 }
 
 impl<F: SectorFile + Drop> SectorDevice for FileDevice<F> {
-    ghost use Rattle.device_model.specs.FileState.{size_of};
+    ghost use Rattle.file_devices.specs.FileState.{size_of};
 
     ghost keeps_model = { F.keeps_model };
 
@@ -113,7 +113,7 @@ impl<F: SectorFile + Drop> SectorDevice for FileDevice<F> {
     ghost use Rattle.base.specs.disk.Calls.{Flushes, IsOnDevice, Writes, counted};
     ghost use Rattle.base.specs.disk.Disk.{bytes_of};
     ghost use Rattle.base.specs.formats.Fields.{part};
-    ghost use Rattle.device_model.specs.FileState.{NotesLast};
+    ghost use Rattle.file_devices.specs.FileState.{NotesLast};
     ghost use Rattle.std.proofs.Common.{ap, sym};
 
     ghost sized = { λ keeps device. ap (λ (b : Bool). size_of b device) (sym keeps) };

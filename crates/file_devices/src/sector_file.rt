@@ -17,7 +17,7 @@ ghost use Rattle.base.specs.formats.Geometry.{sector_size};
 ghost use Rattle.base.specs.disk.Disk.{Disk, HasEarlierWrites, bytes_of, disk_size};
 ghost use Rattle.base.specs.declared.error.PoolError.TheVariants as PoolError;
 ghost use Rattle.base.specs.disk.Calls.{Flushes, IsOnDevice, Writes};
-ghost use Rattle.device_model.specs.FileState.{no_disk, refused_as};
+ghost use Rattle.file_devices.specs.FileState.{no_disk, refused_as};
 
 use crate::refused_call::CallCause;
 use base::SECTOR_SIZE;

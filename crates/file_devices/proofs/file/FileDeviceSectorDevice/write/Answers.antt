@@ -1,8 +1,8 @@
 use Rattle.std.proofs.Common.{◌+◌, ap, length, refl}
 use Rattle.base.specs.declared.error.PoolError.TheVariants.{Write}
-use Rattle.device_model.specs.FileState.{FileState, refused_as}
-use Rattle.device_model.proofs.ShownDisks.{fits_on_disk, shown_writes}
-use Rattle.device_model.proofs.file.FileDeviceSectorDevice.write.Goals as goal
+use Rattle.file_devices.specs.FileState.{FileState, refused_as}
+use Rattle.file_devices.proofs.ShownDisks.{fits_on_disk, shown_writes}
+use Rattle.file_devices.proofs.file.FileDeviceSectorDevice.write.Goals as goal
 
 pub invariant_of-self : goal.invariant_of-self
 invariant_of-self g c = record {

@@ -1,8 +1,8 @@
 use Rattle.std.proofs.Common.{ap, refl}
 use Rattle.base.specs.declared.error.PoolError.TheVariants.{Flush}
-use Rattle.device_model.specs.FileState.{FileState, refused_as}
-use Rattle.device_model.proofs.ShownDisks.{shown_flushes}
-use Rattle.device_model.proofs.file.FileDeviceSectorDevice.flush.Goals as goal
+use Rattle.file_devices.specs.FileState.{FileState, refused_as}
+use Rattle.file_devices.proofs.ShownDisks.{shown_flushes}
+use Rattle.file_devices.proofs.file.FileDeviceSectorDevice.flush.Goals as goal
 
 pub invariant_of-self : goal.invariant_of-self
 invariant_of-self g c = record {

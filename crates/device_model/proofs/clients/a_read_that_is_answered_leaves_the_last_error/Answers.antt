@@ -1,5 +1,0 @@
-use Rattle.device_model.proofs.ShownDisks.{last_left}
-use Rattle.device_model.proofs.clients.a_read_that_is_answered_leaves_the_last_error.Goals as goal
-
-pub returns : goal.returns
-returns g c = last_left c.read.result _ _ _ c.read.ensures.last
