@@ -4,6 +4,7 @@ ghost use Rattle.std.specs.Prelude.{◌≡◌, ◌+◌, ◌≤◌, [], IfOk, IfS
 ghost use Rattle.base.specs.disk.Disk.{put};
 
 use crate::notes::overwrite;
+use base::are_all;
 use std::alloc::{AllocError, Global};
 use std::marker::Model;
 
@@ -87,7 +88,7 @@ fn run_of(bytes: &[u8]) -> Option<u8>
     ensures { IfSome result (λ byte. bytes.now ≡ replicate (length bytes.now) byte) }
 {
     let first = *bytes.first()?;
-    if bytes.iter().all(|byte| *byte == first) {
+    if are_all(bytes, first) {
         Some(first)
     } else {
         None
