@@ -112,25 +112,3 @@ over_below patches n offset below old new lays there reads = go (cases_Bool (is_
         let alone : is_some (patched (patches n) None) ≡ true = subst (λ (o : Option (List ℕ)). is_some (patched (patches n) o) ≡ true) (none_there (finite.get below n) none)
         (ap is_some (sym (get-laid_over patches below n (numbered patches below n there))) ∙ there) in
         lays below there (inl (made_hides (patches n).basis (patches n).written offset (length old) alone))
-
--- and three
-pub lays_on_all : (first second third : Patches) (n offset : ℕ) (a b c d : List ℕ) → length b ≡ length a → length c ≡ length a → LaysOnBelow first n offset a b → LaysOnBelow second n offset b c → LaysOnBelow third n offset c d
-    → (below : FinMap nat_cmp (List ℕ)) → is_some (finite.get (laid_over third (laid_over second (laid_over first below))) n) ≡ true
-    → (HidesBelow (third n) offset (length a) ⊎ (HidesBelow (second n) offset (length a) ⊎ HidesBelow (first n) offset (length a))) ⊎ AreBytesFrom offset (object_bytes below n) a
-    → AreBytesFrom offset (object_bytes (laid_over third (laid_over second (laid_over first below))) n) d
-lays_on_all first second third n offset a b c d long longer one two three below there known = by known
-  where
-    from_second : (is_some (finite.get (laid_over second (laid_over first below)) n) ≡ true → AreBytesFrom offset (object_bytes (laid_over second (laid_over first below)) n) c)
-        → AreBytesFrom offset (object_bytes (laid_over third (laid_over second (laid_over first below))) n) d
-    from_second = over_below third n offset (laid_over second (laid_over first below)) c d three there
-
-    from_first : (is_some (finite.get (laid_over first below) n) ≡ true → AreBytesFrom offset (object_bytes (laid_over first below) n) b)
-        → AreBytesFrom offset (object_bytes (laid_over third (laid_over second (laid_over first below))) n) d
-    from_first reads = from_second (λ some. over_below second n offset (laid_over first below) b c two some reads)
-
-    by : (HidesBelow (third n) offset (length a) ⊎ (HidesBelow (second n) offset (length a) ⊎ HidesBelow (first n) offset (length a))) ⊎ AreBytesFrom offset (object_bytes below n) a
-        → AreBytesFrom offset (object_bytes (laid_over third (laid_over second (laid_over first below))) n) d
-    by (inl (inl hides)) = three (laid_over second (laid_over first below)) there (inl (subst (λ (k : ℕ). HidesBelow (third n) offset k) (sym longer) hides))
-    by (inl (inr (inl hides))) = from_second (λ some. two (laid_over first below) some (inl (subst (λ (k : ℕ). HidesBelow (second n) offset k) (sym long) hides)))
-    by (inl (inr (inr hides))) = from_first (λ some. one below some (inl hides))
-    by (inr reads) = from_first (λ some. one below some (inr reads))

@@ -136,11 +136,6 @@ laid_over patches below = objects_up_to object_count (λ n. patched (patches n) 
 abbrev pub ArePatchesOf : List Op → Patches → Type 0
 ArePatchesOf ops patches = (n : ℕ) (below : Option (List ℕ)) → patched (patches n) below ≡ fold (λ object op. object_after n op object) below ops
 
--- the patches of so many groups from this one on, laid one over the other, oldest first
-abbrev pub laid_groups : ℕ → ℕ → (ℕ → Patches) → FinMap nat_cmp (List ℕ) → FinMap nat_cmp (List ℕ)
-laid_groups zero group patches below = below
-laid_groups (suc count) group patches below = laid_groups count (suc group) patches (laid_over (patches group) below)
-
 -- no object has a number above the last
 abbrev pub AreNumbered : FinMap nat_cmp (List ℕ) → Type 0
 AreNumbered objects = (n : ℕ) → object_count ≤ n → finite.get objects n ≡ None

@@ -26,11 +26,11 @@ use Rattle.base.specs.history.Contents.{Contents}
 use Rattle.base.proofs.crash.OneMount.{mounts_agree}
 use Rattle.base.proofs.formats.Geometry.{blocks-end}
 use Rattle.device_model.specs.declared.device.SectorDevice.{Ghosts}
-use Rattle.extents.specs.declared.unsynced.UnsyncedExtents.{UnsyncedExtents}
+use Rattle.unsynced_extents.specs.declared.unsynced.UnsyncedExtents.{UnsyncedExtents}
 use Rattle.extents.specs.Patches.{ArePatchesOf, Patches, laid_over, no_patch, patched}
 use Rattle.extents.specs.Synced.{patched_contents}
 use Rattle.extents.specs.Tables.{name_of, patches_of}
-use Rattle.extents.specs.Unsynced.{AppliesAt, KeepsOtherPlaces, LeavesChanges, changes_at, extents_at, laid_all}
+use Rattle.unsynced_extents.specs.Unsynced.{AppliesAt, KeepsOtherPlaces, LeavesChanges, changes_at, extents_at, laid_all}
 use Rattle.extents.proofs.LaidObjects.{get-laid_over, get-laid_past, laid_nothing}
 use Rattle.extents.proofs.LaidWithin.{patches_sized}
 use Rattle.extents.proofs.PatchedObjects.{patched_nothing}

@@ -11,9 +11,9 @@ use Rattle.base.specs.declared.range.Range.{Range}
 use Rattle.base.specs.formats.Geometry.{block_address}
 use Rattle.base.specs.history.Contents.{Contents}
 use Rattle.base.specs.kept.PlacedTrees.{HoldsTree}
-use Rattle.extents.specs.declared.unsynced.UnsyncedExtents.{UnsyncedExtents}
+use Rattle.unsynced_extents.specs.declared.unsynced.UnsyncedExtents.{UnsyncedExtents}
 use Rattle.extents.specs.Patches.{ArePatchesOf, no_patch}
-use Rattle.extents.specs.Unsynced.{changes_at, laid_all}
+use Rattle.unsynced_extents.specs.Unsynced.{changes_at, laid_all}
 use Rattle.log_replay.specs.Replays.{ops_of_records}
 use Rattle.object_maps.specs.ContentsShown.{contents_of}
 use Rattle.tree_blocks.specs.Lengths.{HasLengthsOf}

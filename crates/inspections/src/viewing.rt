@@ -23,7 +23,6 @@ ghost use Rattle.mounted.specs.Ranges.{is_readable};
 use base::{Bytes, OBJECT_COUNT, ObjectId, Op, PoolError, Range};
 use checked_blocks::Frame;
 use device_model::SectorDevice;
-use extents::UnsyncedExtents;
 use import_replay::{ReplayedPool, frame_of, read_pool, replay_pool};
 use labels::Geometry;
 use object_maps::{BlockReader, Contents};
@@ -32,6 +31,7 @@ use records::Record;
 use std::alloc::{AllocError, Global};
 use std::fmt;
 use tree_blocks::{ObjectSource, Tree};
+use unsynced_extents::UnsyncedExtents;
 
 /// A pool as an import would mount it. It doesn't hold the device: each read is handed a `BlockReader`.
 #[derive(Drop)]

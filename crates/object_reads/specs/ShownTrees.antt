@@ -15,7 +15,7 @@ use Rattle.object_maps.specs.Cached.{IsReadRefusal}
 use Rattle.object_maps.specs.ContentsShown.{contents_of}
 use Rattle.tree_blocks.specs.Lengths.{HasLengthsOf}
 use Rattle.tree_blocks.specs.Pointers.{pointers_of}
-use Rattle.extents.specs.Unsynced.{laid_all}
+use Rattle.unsynced_extents.specs.Unsynced.{laid_all}
 use Rattle.object_reads.specs.declared.pointer_blocks.PointerBlocks.{PointerBlocks}
 use Rattle.object_reads.specs.declared.shown_tree.ShownTree.{ShownTree}
 

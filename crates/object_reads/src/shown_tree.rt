@@ -15,9 +15,10 @@ ghost use Rattle.tree_blocks.specs.Sources.{AreBytesFrom, object_bytes, object_l
 use crate::pointer_blocks::PointerBlocks;
 use base::{ObjectId, POINTER_COUNT, PoolError};
 use checked_blocks::Frame;
-use extents::{Laid, UnsyncedExtents};
+use extents::Laid;
 use object_maps::{BlockReader, Contents, read_part, record_pointer};
 use tree_blocks::{ObjectSource, Tree, strip_number};
+use unsynced_extents::UnsyncedExtents;
 
 /// What a pool has in memory of the objects that it shows. Reads of their bytes are handed the device.
 #[derive(Clone, Copy)]

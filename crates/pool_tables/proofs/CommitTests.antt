@@ -11,7 +11,7 @@ use Rattle.base.specs.formats.Limits.{max_log_record}
 use Rattle.base.specs.history.Plans.{is_plan_allowed, log_record_size, shape_of}
 use Rattle.base.specs.steps.Groups.{Admission}
 use Rattle.base.specs.steps.Refusals.{gives_bad_name, is_same_plan, transaction_of}
-use Rattle.extents.specs.Unsynced.{name_over}
+use Rattle.unsynced_extents.specs.Unsynced.{name_over}
 use Rattle.object_maps.specs.ContentsShown.{Judges}
 use Rattle.object_maps.specs.Judging.{JudgesOver}
 use Rattle.object_maps.specs.Ops.{AreOpsAllowed}

@@ -12,7 +12,7 @@ use Rattle.base.specs.steps.Logs.{log_after_commit}
 use Rattle.base.specs.steps.Shown.{Shown}
 use Rattle.base.specs.steps.Steps.{Commit, State, state_after_commit, transactions_without}
 use Rattle.base.proofs.steps.KeptTables.{steps_keep_tables}
-use Rattle.extents.specs.Unsynced.{laid_all, name_over}
+use Rattle.unsynced_extents.specs.Unsynced.{laid_all, name_over}
 use Rattle.pool_tables.specs.declared.pool.PoolTables.{PoolTables}
 use Rattle.pool_tables.specs.Entries.{shown_after_entry}
 use Rattle.pool_tables.specs.Meets.{MayCommit, MeetsExplained}

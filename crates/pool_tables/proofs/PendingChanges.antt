@@ -11,13 +11,13 @@ use Rattle.base.specs.history.Contents.{name_given_by_all}
 use Rattle.base.proofs.history.Names.{given-append}
 use Rattle.base.proofs.steps.KeptGroups.{held_above, held_above_sync}
 use Rattle.extents.specs.declared.extents.Extents.{Extents}
-use Rattle.extents.specs.declared.unsynced.UnsyncedExtents.{UnsyncedExtents}
+use Rattle.unsynced_extents.specs.declared.unsynced.UnsyncedExtents.{UnsyncedExtents}
 use Rattle.extents.specs.Patches.{ArePatchesOf, laid_over, no_patch}
 use Rattle.extents.specs.Synced.{patched_contents}
 use Rattle.extents.specs.Tables.{name_of, patches_of}
-use Rattle.extents.specs.Unsynced.{AppliesAt, KeepsOtherPlaces, LeavesChanges, changes_at, extents_at, laid_all, name_at, name_over}
+use Rattle.unsynced_extents.specs.Unsynced.{AppliesAt, KeepsOtherPlaces, LeavesChanges, changes_at, extents_at, laid_all, name_at, name_over}
 use Rattle.extents.proofs.SamePatches.{changes_added, changes_left}
-use Rattle.extents.proofs.GroupEntries.{sized_at}
+use Rattle.unsynced_extents.proofs.GroupEntries.{sized_at}
 use Rattle.groups.specs.CountedLines.{holds_of}
 use Rattle.groups.proofs.HoldCounts.{has_hold}
 use Rattle.records.specs.declared.record.Record.{Record}

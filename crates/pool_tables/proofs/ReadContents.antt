@@ -11,10 +11,10 @@ use Rattle.base.specs.steps.Shown.{Shown}
 use Rattle.base.specs.steps.Steps.{ops_of_group}
 use Rattle.base.proofs.common.KeptLists.{All-each}
 use Rattle.base.proofs.history.KeptContents.{bounded-no_others}
-use Rattle.extents.specs.declared.unsynced.UnsyncedExtents.{UnsyncedExtents}
+use Rattle.unsynced_extents.specs.declared.unsynced.UnsyncedExtents.{UnsyncedExtents}
 use Rattle.extents.specs.Patches.{ArePatchesOf}
-use Rattle.extents.specs.Unsynced.{changes_at, laid_all, name_over}
-use Rattle.extents.proofs.UnsyncedGroups.{names_are_read, unsynced_are_read}
+use Rattle.unsynced_extents.specs.Unsynced.{changes_at, laid_all, name_over}
+use Rattle.unsynced_extents.proofs.UnsyncedGroups.{names_are_read, unsynced_are_read}
 use Rattle.throttle.proofs.SumLaws.{open_within}
 use Rattle.records.specs.declared.record.Record.{Record}
 use Rattle.pool_tables.specs.Unsynced.{AreChangesOfUnsynced, AreNamesOfUnsynced}

@@ -14,14 +14,14 @@ use Rattle.base.specs.history.Contents.{Contents, name_given_by_all, object_afte
 use Rattle.base.specs.steps.Groups.{IsLine, Line}
 use Rattle.base.specs.steps.Logs.{Log}
 use Rattle.intent_log.specs.RunLogs.{IsLogOf, records_after}
-use Rattle.extents.specs.declared.unsynced.UnsyncedExtents.{UnsyncedExtents}
+use Rattle.unsynced_extents.specs.declared.unsynced.UnsyncedExtents.{UnsyncedExtents}
 use Rattle.extents.specs.Patches.{laid_over, no_patch, patched}
 use Rattle.extents.specs.Synced.{patched_contents}
-use Rattle.extents.specs.Unsynced.{MovesUp, changes_at, laid_all, name_at, name_over}
+use Rattle.unsynced_extents.specs.Unsynced.{MovesUp, changes_at, laid_all, name_at, name_over}
 use Rattle.extents.proofs.LaidObjects.{laid_nothing}
 use Rattle.extents.proofs.LaidWithin.{stay_within}
 use Rattle.extents.proofs.PatchedObjects.{patched_nothing}
-use Rattle.extents.proofs.UnsyncedGroups.{oldest_is_laid, oldest_name_is_laid}
+use Rattle.unsynced_extents.proofs.UnsyncedGroups.{oldest_is_laid, oldest_name_is_laid}
 use Rattle.object_maps.specs.declared.contents.Contents as declared
 use Rattle.object_maps.specs.ContentsShown.{contents_of}
 use Rattle.object_maps.specs.Judging.{with_name}

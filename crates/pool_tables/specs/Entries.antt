@@ -8,7 +8,7 @@ use Rattle.base.specs.steps.Groups.{Line}
 use Rattle.base.specs.steps.Logs.{log_after_commit}
 use Rattle.base.specs.steps.Shown.{Shown}
 use Rattle.base.specs.steps.Steps.{transactions_without}
-use Rattle.extents.specs.Unsynced.{CanApplyAt}
+use Rattle.unsynced_extents.specs.Unsynced.{CanApplyAt}
 use Rattle.intent_log.specs.Kept.{HasRecordRoom}
 use Rattle.pool_tables.specs.declared.pool.PoolTables.{PoolTables}
 

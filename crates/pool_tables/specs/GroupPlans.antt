@@ -7,7 +7,7 @@ use Rattle.base.specs.steps.Logs.{header_for}
 use Rattle.base.specs.steps.Shown.{SyncPlan}
 use Rattle.base.specs.kept.Stored.{frame_at}
 use Rattle.sync.specs.Runs.{call_count}
-use Rattle.extents.specs.Unsynced.{name_at}
+use Rattle.unsynced_extents.specs.Unsynced.{name_at}
 use Rattle.tree_plans.specs.declared.planner.TreePlan.{TreePlan}
 use Rattle.tree_plans.specs.Plans.{address_of}
 use Rattle.group_plans.specs.GroupPlans.{HoldsGroupObjects, IsRefusedShort, MakesReadTree}

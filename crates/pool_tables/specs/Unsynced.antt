@@ -2,9 +2,9 @@
 use Rattle.std.specs.Prelude.{ℕ, ◌≡◌, ◌+◌, ◌<◌, ◌≤◌, All, None, List}
 use Rattle.base.specs.history.Contents.{name_given_by_all}
 use Rattle.base.specs.steps.Groups.{Line}
-use Rattle.extents.specs.declared.unsynced.UnsyncedExtents.{UnsyncedExtents}
+use Rattle.unsynced_extents.specs.declared.unsynced.UnsyncedExtents.{UnsyncedExtents}
 use Rattle.extents.specs.Patches.{ArePatchesOf}
-use Rattle.extents.specs.Unsynced.{changes_at, name_at}
+use Rattle.unsynced_extents.specs.Unsynced.{changes_at, name_at}
 use Rattle.object_maps.specs.declared.contents.Contents.{Contents}
 use Rattle.object_maps.specs.ContentsShown.{contents_of}
 use Rattle.tree_blocks.specs.ListedObjects.{AreWithin}

@@ -44,7 +44,7 @@ ghost use Rattle.base.specs.declared.range.Mode.TheVariants.{Writer};
 ghost use Rattle.base.specs.history.Plans.{number_range};
 ghost use Rattle.base.specs.steps.Refusals.{append_range, is_lock_in_use};
 ghost use Rattle.base.specs.steps.Shown as show;
-ghost use Rattle.extents.specs.Unsynced.{name_at};
+ghost use Rattle.unsynced_extents.specs.Unsynced.{name_at};
 ghost use Rattle.object_maps.specs.ContentsShown.{contents_of};
 ghost use Rattle.tree_blocks.specs.ListedObjects.{AreWithin};
 ghost use Rattle.tree_blocks.specs.Pointers.{pointers_of};
@@ -68,7 +68,7 @@ use base::{
     PoolError, PoolName, Range, Receipt, Status, WRITTEN_VERSION,
 };
 use checked_blocks::Frame;
-use extents::{Laid, UnsyncedExtents};
+use extents::Laid;
 use groups::Groups;
 use intent_log::{Log, LogHeader};
 use labels::Geometry;
@@ -83,6 +83,7 @@ use sync::SyncRun;
 use throttle::Dirty;
 use transactions::OpenTransactions;
 use tree_blocks::{ObjectEntry, ObjectSource, Tree};
+use unsynced_extents::UnsyncedExtents;
 
 /// What a step of a sync answers.
 #[derive(Clone, Copy, Debug, PartialEq, Eq)]

@@ -5,12 +5,13 @@ ghost use Rattle.std.specs.FinMap as finite;
 ghost use Rattle.object_maps.specs.ContentsShown.{contents_of};
 ghost use Rattle.extents.specs.Patches.{no_patch};
 ghost use Rattle.extents.specs.Tables.{patches_of};
-ghost use Rattle.extents.specs.Unsynced.{changes_at};
+ghost use Rattle.unsynced_extents.specs.Unsynced.{changes_at};
 ghost use Rattle.extents.specs.declared.basis.Basis.TheVariants as basis;
 
 use base::ObjectId;
-use extents::{Extents, UnsyncedExtents};
+use extents::Extents;
 use object_maps::Contents;
+use unsynced_extents::UnsyncedExtents;
 
 // Of an object that was cut to its first byte, and made three bytes long again, that byte shows and then zeros.
 fn bytes_after_a_cut_are_laid_over(extents: &Extents, into: &mut [u8])

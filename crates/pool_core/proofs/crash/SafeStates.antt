@@ -15,7 +15,7 @@ use Rattle.base.specs.kept.Stored.{Held, NewTree, is_turn}
 use Rattle.base.proofs.common.KeptLists.{Some-injective, mapped}
 use Rattle.device_model.specs.declared.device.SectorDevice.{Ghosts}
 use Rattle.extents.specs.Synced.{patched_contents}
-use Rattle.extents.specs.Unsynced.{changes_at, name_at}
+use Rattle.unsynced_extents.specs.Unsynced.{changes_at, name_at}
 use Rattle.sync.specs.declared.run.LabelStages.{LabelStages}
 use Rattle.sync.specs.declared.run.SyncRun.{SyncRun}
 use Rattle.sync.specs.Runs.{call_count}

@@ -22,7 +22,7 @@ use Rattle.sync.specs.declared.run.SyncRun.{SyncRun}
 use Rattle.tree_blocks.specs.declared.tree.Tree.{Tree}
 use Rattle.pool_tables.specs.declared.pool.RunningSync.{RunningSync}
 use Rattle.pool_tables.specs.Shows.{plan_of}
-use Rattle.extents.specs.Unsynced.{name_at}
+use Rattle.unsynced_extents.specs.Unsynced.{name_at}
 use Rattle.sync.specs.Runs.{SameSync, call_count, other_calls}
 use Rattle.throttle.specs.DirtyBytes.{total_of}
 use Rattle.pool_tables.specs.declared.pool.PoolTables.{PoolTables}

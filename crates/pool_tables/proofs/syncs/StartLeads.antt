@@ -26,7 +26,7 @@ use Rattle.base.proofs.common.Choices.{none_there}
 use Rattle.tree_blocks.specs.declared.tree.ObjectEntry.{ObjectEntry}
 use Rattle.tree_blocks.specs.declared.tree.Tree.{Tree}
 use Rattle.extents.specs.Patches.{ArePatchesOf}
-use Rattle.extents.specs.Unsynced.{changes_at, name_at}
+use Rattle.unsynced_extents.specs.Unsynced.{changes_at, name_at}
 use Rattle.tree_blocks.specs.Pointers.{pointers_of}
 use Rattle.space.proofs.FreeLists.{length-rising}
 use Rattle.sync.specs.Runs.{other_calls}

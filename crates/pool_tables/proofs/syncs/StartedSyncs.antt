@@ -13,7 +13,7 @@ use Rattle.base.specs.steps.Shown.{Shown, SyncPlan, uberblock_of}
 use Rattle.base.specs.steps.Steps.{TakesForEach}
 use Rattle.base.specs.kept.LabelConfigs.{WritesName}
 use Rattle.base.specs.kept.Stored.{IsHeld, NewTree}
-use Rattle.extents.specs.Unsynced.{name_at}
+use Rattle.unsynced_extents.specs.Unsynced.{name_at}
 use Rattle.groups.specs.CountedLines.{CountedLine, after_start}
 use Rattle.tree_blocks.specs.Pointers.{pointers_of}
 use Rattle.space.specs.FreeSets.{FreeSpace}

@@ -33,7 +33,7 @@ use Rattle.tree_plans.specs.Plans.{new_block}
 use Rattle.tree_blocks.specs.Pointers.{pointers_of}
 use Rattle.pool_tables.specs.declared.pool.PoolTables.{PoolTables}
 use Rattle.pool_tables.specs.declared.pool.RunningSync.{RunningSync}
-use Rattle.extents.specs.Unsynced.{name_at}
+use Rattle.unsynced_extents.specs.Unsynced.{name_at}
 use Rattle.sync.specs.GroupLabels.{stages_for}
 use Rattle.pool_tables.specs.Told.{Leads, SamePlaces, config_of, ShownPool, made_by, new_tree_of, pool_told}
 use Rattle.tree_blocks.specs.SyncedTrees.{pointers_after}

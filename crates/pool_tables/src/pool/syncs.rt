@@ -9,7 +9,7 @@ ghost use Rattle.base.specs.formats.Geometry.{block_count};
 ghost use Rattle.base.specs.kept.LabelConfigs.{WritesName};
 ghost use Rattle.base.specs.kept.PlacedTrees.{ArePlaced};
 ghost use Rattle.extents.specs.Synced.{patched_contents};
-ghost use Rattle.extents.specs.Unsynced.{MovesUp, changes_at, name_at};
+ghost use Rattle.unsynced_extents.specs.Unsynced.{MovesUp, changes_at, name_at};
 ghost use Rattle.object_maps.specs.ContentsShown.{contents_of};
 ghost use Rattle.tree_blocks.specs.Pointers.{pointers_of};
 ghost use Rattle.pool_tables.specs.Numbers.{IsGroup};
@@ -20,7 +20,6 @@ ghost use Rattle.sync.specs.GroupLabels.{WritesUberblock, stages_for};
 use crate::blocks::{end_charges, forget_all, give_log, keep_blocks, take_all};
 use crate::pool::{PoolTables, Progress, RunningSync};
 use base::{Group, PoolError, WRITTEN_VERSION};
-use extents::UnsyncedExtents;
 use group_plans::{GroupSource, plan_group};
 use labels::Stage;
 use mounted::give_all;
@@ -28,6 +27,7 @@ use object_maps::{BlockReader, Contents};
 use sync::{SyncCall, SyncRun};
 use tree_plans::TreePlan;
 use uberblocks::Uberblock;
+use unsynced_extents::UnsyncedExtents;
 
 impl PoolTables {
     ghost use Rattle.base.specs.disk.Disk.{bytes_of};

@@ -4,7 +4,7 @@ use Rattle.std.specs.FinMap as finite
 use Rattle.std.specs.FinMap.{FinMap}
 use Rattle.base.proofs.tree.Strips.{record-count}
 use Rattle.extents.specs.Patches.{laid_over}
-use Rattle.extents.specs.Unsynced.{changes_at}
+use Rattle.unsynced_extents.specs.Unsynced.{changes_at}
 use Rattle.object_maps_clients.proofs.SmallObjects.{laid-made, made-hides, made-there}
 use Rattle.object_maps_clients.proofs.changes.reads.a_byte_of_the_newest_group_is_laid_on.Goals as goal
 

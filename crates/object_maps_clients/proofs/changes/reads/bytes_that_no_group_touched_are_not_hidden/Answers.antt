@@ -1,10 +1,10 @@
 use Rattle.std.proofs.Common.{◌≡◌, Bool, true, false, inl, inr, refl, arith}
 use Rattle.std.specs.Prelude.{IsTrue}
 use Rattle.base.proofs.tree.Strips.{record-count}
-use Rattle.extents.specs.LaidReads.{HidesAll}
+use Rattle.unsynced_extents.specs.LaidReads.{HidesAll}
 use Rattle.extents.specs.Patches.{no_patch}
-use Rattle.extents.specs.Unsynced.{changes_at}
-use Rattle.extents.specs.declared.unsynced.UnsyncedExtents.{UnsyncedExtents}
+use Rattle.unsynced_extents.specs.Unsynced.{changes_at}
+use Rattle.unsynced_extents.specs.declared.unsynced.UnsyncedExtents.{UnsyncedExtents}
 use Rattle.object_maps_clients.proofs.SmallObjects.{untouched-shows}
 use Rattle.object_maps_clients.proofs.changes.reads.bytes_that_no_group_touched_are_not_hidden.Goals as goal
 

@@ -1,5 +1,5 @@
 use Rattle.std.proofs.Common.{rules, ◌*◌, ◌+◌, ◌⊎◌, inl, inr, ℕ, List, length, arith, subst, sym}
-use Rattle.extents.specs.LaidReads.{HidesAll}
+use Rattle.unsynced_extents.specs.LaidReads.{HidesAll}
 use Rattle.tree_blocks.specs.Sources.{AreBytesFrom, object_bytes}
 use Rattle.object_reads.specs.ShownTrees.{synced_objects}
 use Rattle.object_reads.proofs.shown_tree.ShownTree.read_part.Goals as goal

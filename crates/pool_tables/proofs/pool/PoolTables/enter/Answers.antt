@@ -9,7 +9,7 @@ use Rattle.base.specs.steps.Logs.{Log}
 use Rattle.intent_log.specs.Kept.{header_fields, log_shown}
 use Rattle.intent_log.specs.RunLogs.{IsLogOf, KeepsHeader}
 use Rattle.intent_log.proofs.RunLogs.{entered_log, header_entered}
-use Rattle.extents.specs.Unsynced.{laid_all, name_over}
+use Rattle.unsynced_extents.specs.Unsynced.{laid_all, name_over}
 use Rattle.groups.specs.CountedLines.{CountedLine, after_release}
 use Rattle.groups.specs.Laws.{AreHoldsExact}
 use Rattle.throttle.proofs.OpenCharges.{stay_charged}

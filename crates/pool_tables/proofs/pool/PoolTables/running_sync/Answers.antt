@@ -2,7 +2,7 @@ use Rattle.std.proofs.Common.{◌≡◌, ℕ, ◌+◌, ◌-◌, List, Option, So
 use Rattle.std.specs.Prelude.{IfSome, unwrap_or}
 use Rattle.std.specs.Option.{option_map, option_map_or}
 use Rattle.extents.specs.Tables.{name_of}
-use Rattle.extents.specs.Unsynced.{name_at}
+use Rattle.unsynced_extents.specs.Unsynced.{name_at}
 use Rattle.extents.specs.declared.extents.Extents.{Extents}
 use Rattle.std.specs.Global.{Vec}
 use Rattle.std.proofs.lemmas.List.{length-map}

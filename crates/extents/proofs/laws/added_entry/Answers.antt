@@ -1,5 +1,0 @@
-use Rattle.extents.proofs.GroupEntries as entries
-use Rattle.extents.proofs.laws.added_entry.Goals as goal
-
-pub returns : goal.returns
-returns c = entries.added_entry

@@ -1,5 +1,0 @@
-use Rattle.extents.proofs.UnsyncedGroups as unsynced
-use Rattle.extents.proofs.laws.names_are_read.Goals as goal
-
-pub returns : goal.returns
-returns c = unsynced.names_are_read

@@ -1,5 +1,0 @@
-use Rattle.extents.proofs.UnsyncedGroups as unsynced
-use Rattle.extents.proofs.laws.oldest_name_is_laid.Goals as goal
-
-pub returns : goal.returns
-returns c = unsynced.oldest_name_is_laid

@@ -1,0 +1,4 @@
+pub mod LaidGroups
+pub mod LaidReads
+pub mod UnsyncedGroups
+pub mod GroupEntries

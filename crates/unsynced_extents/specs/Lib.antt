@@ -1,0 +1,3 @@
+pub mod Unsynced
+pub mod LaidReads
+pub mod Laws
