@@ -1,10 +1,11 @@
 //! The words of the commands, each with its help.
 
-use crate::words::{Form, Rule, Takes, Word};
+use crate::words::{Form, Rule, Word};
+use clap::builder::ValueParser;
 use command_arguments::{MAX_WORKERS, MAX_WRITES};
 
 /// A number below 2^64.
-const NUMBER: Takes = Takes::Number(0, u64::MAX);
+const NUMBER: ValueParser<'static> = ValueParser::Unsigned(0, u64::MAX);
 
 /// What the help says of a size.
 const SIZE_HELP: &str =
@@ -20,7 +21,7 @@ const DIRTY_HELP: &str =
 /// The file of a pool that the command only reads.
 pub(crate) const READ_FILE: Word = Word {
     name: "FILE",
-    form: Form::Place(Takes::Text),
+    form: Form::Place(ValueParser::String),
     rule: Rule::Needed,
     help: "The path of the file, a regular file that no process has open as a pool to write",
 };
@@ -28,7 +29,7 @@ pub(crate) const READ_FILE: Word = Word {
 /// The file of a pool that the command changes.
 pub(crate) const WRITTEN_FILE: Word = Word {
     name: "FILE",
-    form: Form::Place(Takes::Text),
+    form: Form::Place(ValueParser::String),
     rule: Rule::Needed,
     help: "The path of the file, a regular file that no process has open as a pool",
 };
@@ -36,7 +37,7 @@ pub(crate) const WRITTEN_FILE: Word = Word {
 /// The file of a new pool.
 pub(crate) const CREATED_FILE: Word = Word {
     name: "FILE",
-    form: Form::Place(Takes::Text),
+    form: Form::Place(ValueParser::String),
     rule: Rule::Needed,
     help: "The path of the file, which is made, or resized to SIZE bytes",
 };
@@ -44,7 +45,7 @@ pub(crate) const CREATED_FILE: Word = Word {
 /// The file of a bench.
 pub(crate) const BENCH_FILE: Word = Word {
     name: "FILE",
-    form: Form::Place(Takes::Text),
+    form: Form::Place(ValueParser::String),
     rule: Rule::Default("ztxg-bench.pool"),
     help: "The path of the file, which must not exist",
 };
@@ -54,7 +55,7 @@ pub(crate) const BENCH_FILE: Word = Word {
 /// The object that the command is about.
 pub(crate) const OBJECT: Word = Word {
     name: "OBJECT",
-    form: Form::Place(Takes::Text),
+    form: Form::Place(ValueParser::String),
     rule: Rule::Needed,
     help: "The object's number, 0 to 5291; or its name, after an @",
 };
@@ -94,7 +95,7 @@ pub(crate) const CACHE: Word = Word {
 /// The dirty limit of `serve` and `bench`, that of the library: `DEFAULT_DIRTY_MAX` of `base`.
 pub(crate) const DIRTY: Word = Word {
     name: "dirty",
-    form: Form::Valued("D", Takes::Text),
+    form: Form::Valued("D", ValueParser::String),
     rule: Rule::Default("4194304"),
     help: DIRTY_HELP,
 };
@@ -102,7 +103,7 @@ pub(crate) const DIRTY: Word = Word {
 /// The dirty limit of `load`, at which loads were always made.
 pub(crate) const LOADED_DIRTY: Word = Word {
     name: "dirty",
-    form: Form::Valued("D", Takes::Text),
+    form: Form::Valued("D", ValueParser::String),
     rule: Rule::Default("1048576"),
     help: DIRTY_HELP,
 };
@@ -111,7 +112,7 @@ pub(crate) const LOADED_DIRTY: Word = Word {
 
 pub(crate) const POOL_NAME: Word = Word {
     name: "NAME",
-    form: Form::Place(Takes::Text),
+    form: Form::Place(ValueParser::String),
     rule: Rule::Unless("size"),
     help: "The pool's name: 1 to 64 bytes, first a letter, then letters, digits, '-', '_', '.'",
 };
@@ -125,21 +126,21 @@ pub(crate) const POOL_GUID: Word = Word {
 
 pub(crate) const POOL_SIZE: Word = Word {
     name: "SIZE",
-    form: Form::Place(Takes::Text),
+    form: Form::Place(ValueParser::String),
     rule: Rule::Unless("size"),
     help: SIZE_HELP,
 };
 
 pub(crate) const GIVEN_SIZE: Word = Word {
     name: "size",
-    form: Form::Valued("SIZE", Takes::Text),
+    form: Form::Valued("SIZE", ValueParser::String),
     rule: Rule::Without("NAME"),
     help: "The bytes of the file, as 64M",
 };
 
 pub(crate) const GIVEN_NAME: Word = Word {
     name: "name",
-    form: Form::Valued("NAME", Takes::Text),
+    form: Form::Valued("NAME", ValueParser::String),
     rule: Rule::With("size"),
     help: "The pool's name, if it isn't FILE's",
 };
@@ -208,21 +209,21 @@ pub(crate) const HELP: Word = Word {
 
 pub(crate) const GET_OFFSET: Word = Word {
     name: "offset",
-    form: Form::Valued("O", Takes::Text),
+    form: Form::Valued("O", ValueParser::String),
     rule: Rule::Default("0"),
     help: "The first byte, as 4096 or 4K",
 };
 
 pub(crate) const LENGTH: Word = Word {
     name: "length",
-    form: Form::Valued("L", Takes::Text),
+    form: Form::Valued("L", ValueParser::String),
     rule: Rule::Free,
     help: "The most bytes, if not all up to the object's end",
 };
 
 pub(crate) const PUT_OFFSET: Word = Word {
     name: "offset",
-    form: Form::Valued("O", Takes::Text),
+    form: Form::Valued("O", ValueParser::String),
     rule: Rule::Free,
     help: "Where the bytes go; without it they replace all that the object has",
 };
@@ -231,14 +232,14 @@ pub(crate) const PUT_OFFSET: Word = Word {
 
 pub(crate) const LOAD_WORKERS: Word = Word {
     name: "workers",
-    form: Form::Valued("W", Takes::Number(1, MAX_WORKERS as u64)),
+    form: Form::Valued("W", ValueParser::Unsigned(1, MAX_WORKERS as u64)),
     rule: Rule::Needed,
     help: "The threads that make the writes: 1 to 16",
 };
 
 pub(crate) const OPS: Word = Word {
     name: "ops",
-    form: Form::Valued("N", Takes::Number(0, MAX_WRITES as u64)),
+    form: Form::Valued("N", ValueParser::Unsigned(0, MAX_WRITES as u64)),
     rule: Rule::Needed,
     help: "The writes of each of the 16 streams: 0 to 1000000",
 };
@@ -254,7 +255,7 @@ pub(crate) const SEED: Word = Word {
 
 pub(crate) const BENCH_SIZE: Word = Word {
     name: "size",
-    form: Form::Valued("SIZE", Takes::Text),
+    form: Form::Valued("SIZE", ValueParser::String),
     rule: Rule::Default("64M"),
     help: "The bytes of FILE, as 64M: 6M to 1G, a multiple of 256K",
 };
@@ -268,7 +269,7 @@ pub(crate) const BENCH_WORKERS: Word = Word {
 
 pub(crate) const BYTES: Word = Word {
     name: "bytes",
-    form: Form::Valued("B", Takes::Text),
+    form: Form::Valued("B", ValueParser::String),
     rule: Rule::Default("4096"),
     help: "The bytes of each write: 1 to 64512",
 };
@@ -292,21 +293,21 @@ pub(crate) const DURABLE: Word = Word {
 /// The size of a device in memory.
 pub(crate) const MEMORY_SIZE: Word = Word {
     name: "SIZE",
-    form: Form::Place(Takes::Text),
+    form: Form::Place(ValueParser::String),
     rule: Rule::InPlaceOf("file"),
     help: SIZE_HELP,
 };
 
 pub(crate) const SCRIPT: Word = Word {
     name: "SCRIPT",
-    form: Form::Place(Takes::Text),
+    form: Form::Place(ValueParser::String),
     rule: Rule::Needed,
     help: "The path of the script, or - for standard input",
 };
 
 pub(crate) const SCRIPT_FILE: Word = Word {
     name: "file",
-    form: Form::Valued("FILE", Takes::Text),
+    form: Form::Valued("FILE", ValueParser::String),
     rule: Rule::Free,
     help: "The path of a file to work on, in place of a device in memory of SIZE bytes",
 };
@@ -344,7 +345,7 @@ pub(crate) const VERBOSE: Word = Word {
 
 pub(crate) const WAIT: Word = Word {
     name: "wait",
-    form: Form::Valued("S", Takes::Number(0, 86_400)),
+    form: Form::Valued("S", ValueParser::Unsigned(0, 86_400)),
     rule: Rule::Free,
     help: "Waits up to S seconds for a FILE that another process has: 0 to 86400",
 };

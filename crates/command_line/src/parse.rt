@@ -22,11 +22,16 @@ pub(crate) fn parse_arguments<'a>(
 }
 
 fn program<'a>(alloc: Global) -> Result<Command<'a>, AllocError> {
-    let mut program = with_words(alloc, described_program(alloc), &OPTIONS, true)?;
+    let subcommands = subcommands(alloc)?;
+    with_words(alloc, described_program(alloc), &OPTIONS, true)?.subcommands(subcommands)
+}
+
+fn subcommands<'a>(alloc: Global) -> Result<Vec<Command<'a>>, AllocError> {
+    let mut subcommands = Vec::new(alloc);
     for command in &COMMANDS {
-        program = program.subcommand(subcommand(alloc, command)?)?;
+        subcommands.push(subcommand(alloc, command)?)?;
     }
-    Ok(program)
+    Ok(subcommands)
 }
 
 fn described_program<'a>(alloc: Global) -> Command<'a> {

@@ -23,25 +23,16 @@ pub(crate) struct Word {
 /// How a word is given.
 #[derive(Clone, Copy)]
 pub(crate) enum Form {
-    /// In its place after the command's name.
-    Place(Takes),
-    /// As an option with a value, which the help gives this name.
-    Valued(&'static str, Takes),
+    /// In its place after the command's name, with the texts that it may have.
+    Place(ValueParser<'static>),
+    /// As an option with a value: the name that the help gives it, and the texts that it may have.
+    Valued(&'static str, ValueParser<'static>),
     /// As an option without a value.
     Flag,
     /// As an option without a value, which also has this letter.
     Letter(char),
     /// As an option that asks for the help.
     Help,
-}
-
-/// Which texts a word may have.
-#[derive(Clone, Copy)]
-pub(crate) enum Takes {
-    /// Any.
-    Text,
-    /// The digits of a number from the first one to the second.
-    Number(u64, u64),
 }
 
 /// Whether a word has to be given, and beside which others.
@@ -96,18 +87,14 @@ fn argument<'a>(alloc: Global, word: &Word) -> Result<Arg<'a>, AllocError> {
 
 fn formed<'a>(arg: Arg<'a>, name: &'static str, form: Form) -> Arg<'a> {
     match form {
-        Form::Place(value) => valued(arg, value),
-        Form::Valued(value_name, value) => valued(arg.long(name).value_name(value_name), value),
+        Form::Place(parser) => arg.value_parser(parser),
+        Form::Valued(value_name, parser) => arg
+            .long(name)
+            .value_name(value_name)
+            .value_parser(parser),
         Form::Flag => arg.long(name).action(ArgAction::SetTrue),
         Form::Letter(letter) => arg.long(name).short(letter).action(ArgAction::SetTrue),
         Form::Help => arg.long(name).action(ArgAction::Help),
-    }
-}
-
-fn valued<'a>(arg: Arg<'a>, value: Takes) -> Arg<'a> {
-    match value {
-        Takes::Text => arg,
-        Takes::Number(least, most) => arg.value_parser(ValueParser::unsigned(least, most)),
     }
 }
 
