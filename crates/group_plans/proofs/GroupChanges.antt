@@ -21,7 +21,7 @@ use Rattle.base.proofs.tree.RecordStates.{HasRecord, dirty-record, object-off, s
 use Rattle.base.proofs.tree.Strips.{one_level-length, record-low}
 use Rattle.tree_blocks.specs.declared.tree.ObjectEntry.{ObjectEntry}
 use Rattle.tree_blocks.specs.Lengths.{length_in}
-use Rattle.object_maps.specs.Ops.{AreOpsAllowed, IsOpAllowed}
+use Rattle.contents.specs.Ops.{AreOpsAllowed, IsOpAllowed}
 use Rattle.records.specs.declared.record.Record.{Record}
 use Rattle.tree_plans.specs.declared.changes.ObjectChanges.{ObjectChanges}
 use Rattle.tree_plans.specs.Changes.{AreInRange, has_two_levels, is_changed_in, may_have_blocks, state_in}

@@ -11,7 +11,7 @@ use Rattle.base.specs.history.Contents.{Contents}
 use Rattle.base.specs.tree.Syncs.{is_on}
 use Rattle.base.proofs.tree.RecordStates.{object-off}
 use Rattle.tree_blocks.specs.declared.tree.ObjectEntry.{ObjectEntry}
-use Rattle.object_maps.specs.ContentsShown.{contents_of}
+use Rattle.contents.specs.ContentsShown.{contents_of}
 use Rattle.tree_blocks.specs.ListedObjects.{AreWithin}
 use Rattle.extents.specs.Patches.{AreNumbered}
 use Rattle.extents.specs.Tables.{patches_of}

@@ -16,8 +16,8 @@ use Rattle.base.specs.tree.Places.{Place}
 use Rattle.extents.specs.declared.extents.Extents.{Extents}
 use Rattle.extents.specs.Tables.{patches_of}
 use Rattle.extents.proofs.LaidObjects.{get-laid_past}
-use Rattle.object_maps.specs.declared.contents.Contents as slots
-use Rattle.object_maps.specs.ContentsShown.{contents_of}
+use Rattle.contents.specs.declared.contents.Contents as slots
+use Rattle.contents.specs.ContentsShown.{contents_of}
 use Rattle.tree_blocks.specs.Sources.{object_length}
 use Rattle.tree_plans.specs.declared.changes.ObjectChanges.{ObjectChanges}
 use Rattle.tree_blocks.specs.declared.object_map.ObjectMap.{ObjectMap}

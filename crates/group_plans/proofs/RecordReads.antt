@@ -14,7 +14,7 @@ use Rattle.base.specs.tree.Places.{record_of_strip, record_start, strip_number}
 use Rattle.base.specs.tree.Places.Place.{Data}
 use Rattle.base.specs.tree.Tree.{IsRecord}
 use Rattle.base.proofs.tree.Strips.{strip-low, strip-object, strip-which}
-use Rattle.object_maps.specs.declared.contents.Contents as slots
+use Rattle.contents.specs.declared.contents.Contents as slots
 use Rattle.extents.specs.declared.extents.Extents.{Extents}
 use Rattle.tree_blocks.specs.Sources.{AreBytesFrom, object_bytes, object_length, object_record}
 use Rattle.tree_blocks.proofs.Records.{get_or-record, length-record, whole_record_read}

@@ -17,7 +17,7 @@ use Rattle.checked_blocks.proofs.SealedBlocks.{sealed_block-is}
 use Rattle.tree_blocks.proofs.Payloads.{padded-full}
 use Rattle.extents.specs.Tables.{patches_of}
 use Rattle.extents.proofs.LaidObjects.{get-laid_past}
-use Rattle.object_maps.specs.ContentsShown.{contents_of}
+use Rattle.contents.specs.ContentsShown.{contents_of}
 use Rattle.tree_blocks.specs.Sources.{object_record}
 use Rattle.group_plans.specs.declared.prepared.PreparedObjects.{PreparedObjects}
 use Rattle.group_plans.specs.GroupPlans.{objects_with}

@@ -20,11 +20,11 @@ use Rattle.base.specs.tree.Places.Place.{Root, Directory}
 use Rattle.base.specs.kept.PlannedTrees.{AreFreed, IsTreePlan, NewBlock}
 use Rattle.base.specs.tree.Syncs.{written_by}
 use Rattle.records.specs.declared.record.Record.{Record}
-use Rattle.object_maps.specs.declared.contents.Contents as slots
+use Rattle.contents.specs.declared.contents.Contents as slots
 use Rattle.tree_blocks.specs.declared.tree.ObjectEntry.{ObjectEntry}
 use Rattle.tree_blocks.specs.declared.tree.Tree.{Tree}
 use Rattle.object_maps.specs.Cached.{IsReadRefusal}
-use Rattle.object_maps.specs.ContentsShown.{contents_of}
+use Rattle.contents.specs.ContentsShown.{contents_of}
 use Rattle.tree_blocks.specs.Sources.{object_length}
 use Rattle.tree_blocks.specs.Lengths.{length_in}
 use Rattle.tree_blocks.specs.Pointers.{pointers_of}

@@ -13,12 +13,12 @@ use Rattle.base.specs.kept.PlacedTrees.{HoldsTree}
 use Rattle.base.specs.declared.pointer.Pointer.{Pointer}
 use Rattle.base.specs.tree.Places.{Place}
 use Rattle.base.specs.kept.PlannedTrees.{IsTreePlan}
-use Rattle.object_maps.specs.declared.contents.Contents as slots
+use Rattle.contents.specs.declared.contents.Contents as slots
 use Rattle.tree_blocks.specs.declared.tree.ObjectEntry.{ObjectEntry}
 use Rattle.tree_blocks.specs.declared.tree.Tree.{Tree}
-use Rattle.object_maps.specs.ContentsShown.{contents_of}
+use Rattle.contents.specs.ContentsShown.{contents_of}
 use Rattle.tree_blocks.specs.Lengths.{length_in}
-use Rattle.object_maps.specs.Ops.{AreOpsAllowed}
+use Rattle.contents.specs.Ops.{AreOpsAllowed}
 use Rattle.tree_blocks.specs.Pointers.{pointers_of}
 use Rattle.tree_blocks.specs.ListedObjects.{AreWithin}
 use Rattle.extents.specs.declared.extents.Extents.{Extents}

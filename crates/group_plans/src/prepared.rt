@@ -8,8 +8,8 @@ ghost use Rattle.group_plans.specs.GroupPlans.{objects_with};
 ghost use Rattle.group_plans.specs.Prepared.{AreClearedPast, IsClearedPast, KeepsFront, KeepsHand, PutsRecord, at_hand, with_records};
 
 use base::{Bytes, ObjectId, PoolError, RECORD_SIZE};
+use contents::Contents;
 use extents::{Extents, Laid};
-use object_maps::Contents;
 use std::alloc::Global;
 use std::collections::BTreeMap;
 use tree_blocks::{ObjectSource, RECORD_COUNT};

@@ -24,10 +24,10 @@ use Rattle.base.specs.formats.Uberblocks.{Uberblock}
 use Rattle.base.proofs.steps.KeptTables.{new_pools_are_explained}
 use Rattle.base.proofs.steps.ListedLengths.{lengths_stay_listed}
 use Rattle.base.proofs.tree.PlacedTrees.{holds-tree, in-tree, told-in_tree}
-use Rattle.object_maps.specs.declared.contents.Slot.{Slot}
+use Rattle.contents.specs.declared.contents.Slot.{Slot}
 use Rattle.tree_blocks.specs.declared.tree.Tree.{Tree}
-use Rattle.object_maps.specs.declared.contents.Contents as declared
-use Rattle.object_maps.specs.ContentsShown.{contents_of, objects_of}
+use Rattle.contents.specs.declared.contents.Contents as declared
+use Rattle.contents.specs.ContentsShown.{contents_of, objects_of}
 use Rattle.tree_blocks.specs.Lengths.{lengths_of}
 use Rattle.tree_blocks.specs.Pointers.{pointers_of}
 use Rattle.sync.specs.Made.{BlocksWritten}

@@ -49,11 +49,11 @@ use Rattle.group_plans.proofs.GroupTrees.{plans_make_trees}
 use Rattle.group_plans.proofs.PlannedBlocks.{addresses_are}
 use Rattle.intent_log.specs.Chains.{IsSoundPiece}
 use Rattle.log_replay.specs.Replays.{IsPieceAllowed, IsChainAllowed, IsReplayCause, IsReplayRefusal}
-use Rattle.object_maps.specs.ContentsShown.{contents_of, objects_of}
+use Rattle.contents.specs.ContentsShown.{contents_of, objects_of}
 use Rattle.tree_blocks.specs.Lengths.{HasLengthsOf}
 use Rattle.trees.specs.Loading.{IsLimitedObject}
 use Rattle.tree_blocks.specs.Pointers.{pointers_of}
-use Rattle.object_maps.specs.declared.contents.Slot.{Slot}
+use Rattle.contents.specs.declared.contents.Slot.{Slot}
 use Rattle.tree_blocks.specs.declared.tree.Tree.{Tree}
 use Rattle.space.proofs.FreeLists.{length-rising}
 use Rattle.sync.specs.Made.{BlocksWritten}

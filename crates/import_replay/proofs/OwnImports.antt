@@ -32,7 +32,7 @@ use Rattle.base.proofs.crash.OwnDisks.{configs_weaker, import_kept}
 use Rattle.base.proofs.disk.Moments.{latest, starts}
 use Rattle.base.proofs.disk.Regions.{flushed_clean}
 use Rattle.labels.specs.declared.stage.Stage.{Stage}
-use Rattle.object_maps.specs.ContentsShown.{contents_of}
+use Rattle.contents.specs.ContentsShown.{contents_of}
 use Rattle.import_replay.specs.Found.{HasFirstStage}
 use Rattle.import_replay.specs.ImportStops.{next_config, writes_of_next}
 use Rattle.import_replay.specs.ImportSyncs.{writes_of_import}

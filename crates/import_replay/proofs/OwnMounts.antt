@@ -8,8 +8,8 @@ use Rattle.base.specs.disk.Disk.{Disk, bytes_of}
 use Rattle.base.specs.formats.Chain.{LogPiece}
 use Rattle.base.specs.formats.Uberblocks.{Uberblock}
 use Rattle.labels.specs.declared.stage.Stage.{Stage}
-use Rattle.object_maps.specs.ContentsShown.{contents_of}
-use Rattle.object_maps.specs.declared.contents.Slot.{Slot}
+use Rattle.contents.specs.ContentsShown.{contents_of}
+use Rattle.contents.specs.declared.contents.Slot.{Slot}
 use Rattle.tree_blocks.specs.declared.tree.Tree.{Tree}
 use Rattle.import_replay.specs.Found.{HasFirstStage}
 use Rattle.import_replay.specs.ImportStops.{writes_of_next}

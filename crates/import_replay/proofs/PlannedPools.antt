@@ -28,7 +28,7 @@ use Rattle.base.proofs.tree.PlacedTrees.{holds-placed, in-tree, opens-at, told-i
 use Rattle.base.proofs.tree.FreedBlocks.{IsNewAddress, freed-left, in-new_tree, stays-or_freed}
 use Rattle.base.proofs.tree.PlannedTrees.{planned-holds}
 use Rattle.base.proofs.tree.SamePlaces.{holds_as}
-use Rattle.object_maps.specs.ContentsShown.{contents_of}
+use Rattle.contents.specs.ContentsShown.{contents_of}
 use Rattle.tree_blocks.specs.Pointers.{pointers_of}
 use Rattle.sync.specs.Made.{BlocksWritten}
 use Rattle.tree_plans.specs.Plans.{address_of, new_block}

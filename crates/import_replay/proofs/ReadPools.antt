@@ -16,7 +16,7 @@ use Rattle.base.specs.tree.Damages.{IsFirstDamage}
 use Rattle.base.specs.kept.PlacedTrees.{HoldsTree}
 use Rattle.base.proofs.disk.Regions.{flushed_clean}
 use Rattle.intent_log.specs.Chains.{IsSoundPiece}
-use Rattle.object_maps.specs.declared.contents.Slot.{Slot}
+use Rattle.contents.specs.declared.contents.Slot.{Slot}
 use Rattle.tree_blocks.specs.declared.tree.Tree.{Tree}
 use Rattle.tree_blocks.specs.Pointers.{pointers_of}
 use Rattle.import_replay.specs.ReadPools.{HoldsPool, IsReadPool, frame_of_size}

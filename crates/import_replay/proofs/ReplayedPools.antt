@@ -25,9 +25,9 @@ use Rattle.group_plans.proofs.GroupCounts.{all_pending, estimates_add}
 use Rattle.intent_log.specs.Chains.{IsSoundPiece}
 use Rattle.log_replay.specs.Replays.{IsPieceAllowed, IsChainAllowed, ops_of_records, record_in}
 use Rattle.log_replay.proofs.BoundedReplays.{replays_stay_bounded}
-use Rattle.object_maps.specs.ContentsShown.{contents_of}
-use Rattle.object_maps.specs.Ops.{AreOpsAllowed, IsOpAllowed}
-use Rattle.object_maps.specs.declared.contents.Slot.{Slot}
+use Rattle.contents.specs.ContentsShown.{contents_of}
+use Rattle.contents.specs.Ops.{AreOpsAllowed, IsOpAllowed}
+use Rattle.contents.specs.declared.contents.Slot.{Slot}
 use Rattle.tree_blocks.specs.declared.tree.Tree.{Tree}
 use Rattle.records.specs.declared.record.Record.{Record}
 use Rattle.records.specs.Records.{record_fields}

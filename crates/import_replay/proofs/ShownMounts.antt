@@ -6,7 +6,7 @@ use Rattle.base.specs.formats.Labels.{IsConfig}
 use Rattle.base.specs.formats.Uberblocks.{IsActive}
 use Rattle.base.proofs.stored.StoredImports.{new-configs, new-shows}
 use Rattle.labels.specs.Configs.{IsConfigBlock}
-use Rattle.object_maps.specs.ContentsShown.{contents_of}
+use Rattle.contents.specs.ContentsShown.{contents_of}
 use Rattle.mounted.specs.declared.mounted.Mounted.{Mounted}
 use Rattle.import_replay.specs.ImportSyncs.{config_of_import, uberblock_of_import}
 use Rattle.import_replay.specs.Labelled.{HoldConfig}

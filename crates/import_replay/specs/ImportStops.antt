@@ -11,7 +11,7 @@ use Rattle.base.specs.formats.Labels.{Config}
 use Rattle.base.specs.formats.Versions.{written_version}
 use Rattle.base.specs.formats.Uberblocks.{Uberblock}
 use Rattle.base.specs.disk.DiskCalls.{IsStoppedIn}
-use Rattle.object_maps.specs.ContentsShown.{contents_of}
+use Rattle.contents.specs.ContentsShown.{contents_of}
 use Rattle.tree_plans.specs.declared.planner.PlannedBlock.{PlannedBlock}
 use Rattle.sync.specs.GroupLabels.{config_for}
 use Rattle.import_replay.specs.Found.{HasFirstStage}

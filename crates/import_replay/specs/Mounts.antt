@@ -15,7 +15,7 @@ use Rattle.base.specs.history.Past.{new_past}
 use Rattle.base.specs.kept.PlacedTrees.{HoldsTree}
 use Rattle.base.specs.tree.Places.{IsInTree}
 use Rattle.base.specs.formats.Uberblocks.{Uberblock, IsActive}
-use Rattle.object_maps.specs.ContentsShown.{contents_of}
+use Rattle.contents.specs.ContentsShown.{contents_of}
 use Rattle.tree_blocks.specs.Pointers.{pointers_of}
 use Rattle.import_replay.specs.ImportRefusals.{CanImport}
 use Rattle.import_replay.specs.NextPools.{PoolParts}

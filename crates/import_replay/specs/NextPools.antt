@@ -28,13 +28,13 @@ use Rattle.group_plans.specs.GroupPlans.{FitsIn, HoldsGroupObjects, IsHeldRefusa
 use Rattle.group_plans.specs.OldMaps.{HoldsTreeOf}
 use Rattle.tree_blocks.specs.SyncedTrees.{lengths_after}
 use Rattle.log_replay.specs.Replays.{IsReplay}
-use Rattle.object_maps.specs.ContentsShown.{contents_of, objects_of}
+use Rattle.contents.specs.ContentsShown.{contents_of, objects_of}
 use Rattle.trees.specs.FreeBlocks.{AreUnnamed}
 use Rattle.tree_blocks.specs.Lengths.{HasLengthsOf, lengths_of}
 use Rattle.trees.specs.Loading.{IsLimitedObject}
 use Rattle.tree_blocks.specs.Pointers.{pointers_of}
-use Rattle.object_maps.specs.declared.contents.Contents as declared
-use Rattle.object_maps.specs.declared.contents.Slot.{Slot}
+use Rattle.contents.specs.declared.contents.Contents as declared
+use Rattle.contents.specs.declared.contents.Slot.{Slot}
 use Rattle.tree_blocks.specs.declared.tree.Tree.{Tree}
 use Rattle.space.specs.FreeSets.{IsIdle}
 use Rattle.tree_plans.specs.Plans.{address_of}

@@ -10,11 +10,11 @@ use Rattle.base.specs.formats.Geometry.{block_count}
 use Rattle.base.specs.formats.Uberblocks.{Uberblock}
 use Rattle.base.specs.kept.PlacedTrees.{ArePlaced, HoldsTree}
 use Rattle.intent_log.specs.Chains.{IsSoundPiece}
-use Rattle.object_maps.specs.declared.contents.Slot.{Slot}
+use Rattle.contents.specs.declared.contents.Slot.{Slot}
 use Rattle.tree_blocks.specs.declared.tree.Tree.{Tree}
 use Rattle.tree_blocks.specs.Lengths.{HasLengthsOf}
 use Rattle.trees.specs.Loading.{IsLimitedObject}
-use Rattle.object_maps.specs.ContentsShown.{objects_of}
+use Rattle.contents.specs.ContentsShown.{objects_of}
 use Rattle.tree_blocks.specs.Pointers.{pointers_of}
 
 -- the frame of an active uberblock, on a device of so many blocks

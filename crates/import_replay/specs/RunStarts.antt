@@ -5,7 +5,7 @@ use Rattle.base.specs.kept.PoolViews.{IsPoolDisk}
 use Rattle.base.specs.disk.Disk.{Disk, Moment}
 use Rattle.base.specs.history.Contents.{Contents}
 use Rattle.base.specs.history.Past.{new_past}
-use Rattle.object_maps.specs.ContentsShown.{contents_of}
+use Rattle.contents.specs.ContentsShown.{contents_of}
 use Rattle.mounted.specs.ShownMounted.{shown_of_import}
 use Rattle.mounted.specs.declared.mounted.Mounted.{Mounted}
 

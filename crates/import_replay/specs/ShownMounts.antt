@@ -4,7 +4,7 @@ use Rattle.base.specs.formats.Geometry.{IsGeometry}
 use Rattle.base.specs.history.Past.{new_past}
 use Rattle.base.specs.kept.LabelConfigs.{HoldConfigs}
 use Rattle.base.specs.kept.ShownLabels.{ShowsSynced}
-use Rattle.object_maps.specs.ContentsShown.{contents_of}
+use Rattle.contents.specs.ContentsShown.{contents_of}
 use Rattle.mounted.specs.ShownMounted.{shown_of_import}
 use Rattle.mounted.specs.declared.mounted.Mounted.{Mounted}
 

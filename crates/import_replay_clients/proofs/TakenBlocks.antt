@@ -37,7 +37,7 @@ use Rattle.base.proofs.disk.Put.{part_same}
 use Rattle.base.proofs.stored.StoredSets.{IsAt, map-at, rising-in, rising-rises, keys-as_keys}
 use Rattle.base.proofs.tree.PlacedTrees.{places-apart, pointers-told, told-in_tree}
 use Rattle.base.proofs.tree.RecordStates.{state-off}
-use Rattle.object_maps.specs.ContentsShown.{contents_of}
+use Rattle.contents.specs.ContentsShown.{contents_of}
 use Rattle.tree_blocks.specs.Pointers.{pointers_of}
 use Rattle.tree_plans.specs.Plans.{address_of}
 use Rattle.tree_plans.specs.declared.planner.PlannedBlock.{PlannedBlock}

@@ -10,7 +10,7 @@ ghost use Rattle.base.specs.formats.Geometry.{IsBlockAddress, block_address, blo
 ghost use Rattle.base.specs.history.Contents.{Contents};
 ghost use Rattle.base.specs.tree.Places.{IsInTree, data_pointer, indirect_pointer};
 ghost use Rattle.base.specs.tree.Syncs.{is_on};
-ghost use Rattle.object_maps.specs.ContentsShown.{contents_of};
+ghost use Rattle.contents.specs.ContentsShown.{contents_of};
 ghost use Rattle.import_replay.specs.PlacedRecords.{ops_of_placed};
 ghost use Rattle.import_replay_clients.specs.ChangedBlocks.{ChangesBlock, KeepsBlock};
 

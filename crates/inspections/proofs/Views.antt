@@ -36,11 +36,11 @@ use Rattle.extents.proofs.LaidWithin.{patches_sized}
 use Rattle.extents.proofs.PatchedObjects.{patched_nothing}
 use Rattle.extents.proofs.SamePatches.{changes_added, changes_left}
 use Rattle.log_replay.specs.Replays.{IsReplayCause, ops_of_records}
-use Rattle.object_maps.specs.ContentsShown.{contents_of, objects_of}
+use Rattle.contents.specs.ContentsShown.{contents_of, objects_of}
 use Rattle.tree_blocks.specs.Lengths.{HasLengthsOf}
-use Rattle.object_maps.specs.Ops.{AreOpsAllowed}
+use Rattle.contents.specs.Ops.{AreOpsAllowed}
 use Rattle.tree_blocks.specs.Sources.{range_in}
-use Rattle.object_maps.specs.declared.contents.Slot.{Slot}
+use Rattle.contents.specs.declared.contents.Slot.{Slot}
 use Rattle.tree_blocks.specs.declared.tree.Tree.{Tree}
 use Rattle.object_reads.specs.ShownTrees.{IsRangeRefusal, IsRangeRefusalOnTree, StandsOn, shown_objects}
 use Rattle.object_reads.specs.declared.shown_tree.ShownTree.{ShownTree}

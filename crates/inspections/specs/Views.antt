@@ -15,9 +15,9 @@ use Rattle.unsynced_extents.specs.declared.unsynced.UnsyncedExtents.{UnsyncedExt
 use Rattle.extents.specs.Patches.{ArePatchesOf, no_patch}
 use Rattle.unsynced_extents.specs.Unsynced.{changes_at, laid_all}
 use Rattle.log_replay.specs.Replays.{ops_of_records}
-use Rattle.object_maps.specs.ContentsShown.{contents_of}
+use Rattle.contents.specs.ContentsShown.{contents_of}
 use Rattle.tree_blocks.specs.Lengths.{HasLengthsOf}
-use Rattle.object_maps.specs.Ops.{AreOpsAllowed}
+use Rattle.contents.specs.Ops.{AreOpsAllowed}
 use Rattle.tree_blocks.specs.Pointers.{pointers_of}
 use Rattle.object_reads.specs.ShownTrees.{IsRangeRefusal}
 use Rattle.mounted.specs.Ranges.{is_readable}

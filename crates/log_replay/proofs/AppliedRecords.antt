@@ -16,7 +16,7 @@ use Rattle.base.specs.history.History.{Entry, apply_all, replay}
 use Rattle.base.specs.history.Plans.{is_shape_allowed, shape_of}
 use Rattle.base.proofs.history.Names.{name-apply_all}
 use Rattle.base.proofs.history.Projections.{objects_replay}
-use Rattle.object_maps.specs.Ops.{AreOpsAllowed, IsOpAllowed}
+use Rattle.contents.specs.Ops.{AreOpsAllowed, IsOpAllowed}
 use Rattle.extents.specs.declared.extents.Extents.{Extents}
 use Rattle.extents.specs.Patches.{laid_over}
 use Rattle.extents.specs.Synced.{patched_contents}

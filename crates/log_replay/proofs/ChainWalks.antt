@@ -13,8 +13,8 @@ use Rattle.base.specs.formats.Records as formats
 use Rattle.base.specs.formats.Records.{IsAllowed, is_content_allowed}
 use Rattle.base.specs.history.Contents.{Contents}
 use Rattle.base.specs.history.Plans.{is_shape_allowed, shape_of}
-use Rattle.object_maps.specs.Judging.{ApplyTo}
-use Rattle.object_maps.specs.Ops.{AreOpsAllowed, IsOpAllowed}
+use Rattle.contents.specs.Judging.{ApplyTo}
+use Rattle.contents.specs.Ops.{AreOpsAllowed, IsOpAllowed}
 use Rattle.extents.specs.Patches.{laid_over}
 use Rattle.extents.specs.Tables.{AppliesOps, name_of, patches_of}
 use Rattle.records.specs.declared.record.Record.{Record}

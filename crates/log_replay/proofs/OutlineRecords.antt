@@ -17,7 +17,7 @@ use Rattle.base.specs.history.Contents.{Contents, apply}
 use Rattle.base.specs.history.History.{apply_all, replay, run}
 use Rattle.base.specs.history.Plans.{is_shape_allowed, shape_of}
 use Rattle.base.proofs.common.Sequences.{joined, parted}
-use Rattle.object_maps.proofs.Judged.{apply-append, judged_refused}
+use Rattle.contents.proofs.Judged.{apply-append, judged_refused}
 use Rattle.records.specs.Records.{is_op_allowed, record_fields}
 use Rattle.records.specs.declared.record.Record.{Record}
 use Rattle.log_replay.specs.Outlines.{IsOutlineOf, LeadsOutline, ReplaysOutline, counted_up_to_last}

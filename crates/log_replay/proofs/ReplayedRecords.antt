@@ -11,11 +11,11 @@ use Rattle.base.specs.history.Contents.{Contents}
 use Rattle.base.specs.history.History.{Entry, apply_all, run}
 use Rattle.base.specs.history.Sequences.{in_turn}
 use Rattle.base.proofs.common.Sequences.{in_turn-append, joined}
-use Rattle.object_maps.specs.declared.contents.Contents as declared
-use Rattle.object_maps.specs.ContentsShown.{contents_of}
-use Rattle.object_maps.specs.Judging.{ApplyTo}
-use Rattle.object_maps.specs.Ops.{AreOpsAllowed}
-use Rattle.object_maps.proofs.ContentsShown.{get-objects_past}
+use Rattle.contents.specs.declared.contents.Contents as declared
+use Rattle.contents.specs.ContentsShown.{contents_of}
+use Rattle.contents.specs.Judging.{ApplyTo}
+use Rattle.contents.specs.Ops.{AreOpsAllowed}
+use Rattle.contents.proofs.ContentsShown.{get-objects_past}
 use Rattle.extents.specs.Patches.{AreNumbered, laid_over, no_patch, patched}
 use Rattle.extents.specs.Synced.{patched_contents}
 use Rattle.extents.specs.Tables.{AppliesOps, name_of, patches_of}

@@ -9,8 +9,8 @@ use Rattle.base.specs.formats.Chain.{LogPiece}
 use Rattle.base.specs.formats.Records as formats
 use Rattle.base.specs.history.Contents.{Contents}
 use Rattle.base.specs.history.History.{apply_all}
-use Rattle.object_maps.specs.Judging.{ApplyTo}
-use Rattle.object_maps.specs.Ops.{AreOpsAllowed}
+use Rattle.contents.specs.Judging.{ApplyTo}
+use Rattle.contents.specs.Ops.{AreOpsAllowed}
 use Rattle.extents.specs.Patches.{laid_over}
 use Rattle.extents.specs.Synced.{patched_contents}
 use Rattle.extents.specs.Tables.{AppliesOps, name_of, patches_of}

@@ -6,7 +6,7 @@ use Rattle.base.specs.declared.error.PoolError.{PoolError}
 use Rattle.base.specs.declared.error.PoolError.TheVariants.{Damaged, NoMemory}
 use Rattle.base.specs.declared.operation.Op.{Op}
 use Rattle.base.specs.history.History.{apply_all}
-use Rattle.object_maps.specs.Judging.{with_name}
+use Rattle.contents.specs.Judging.{with_name}
 
 -- they can't take place in order on these objects, for the same reason whatever the name of the pool is
 abbrev pub IsRefusedOver : List Op → FinMap nat_cmp (List ℕ) → Type 0

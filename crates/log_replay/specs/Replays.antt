@@ -11,7 +11,7 @@ use Rattle.base.specs.formats.Records as formats
 use Rattle.base.specs.formats.Records.{IsAllowed}
 use Rattle.base.specs.history.Contents.{Contents}
 use Rattle.base.specs.history.History.{apply_all}
-use Rattle.object_maps.specs.Ops.{AreOpsAllowed}
+use Rattle.contents.specs.Ops.{AreOpsAllowed}
 use Rattle.extents.specs.Patches.{ArePatchesOf}
 use Rattle.extents.specs.Synced.{patched_contents}
 use Rattle.extents.specs.Tables.{name_of, patches_of}

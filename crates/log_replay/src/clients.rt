@@ -6,7 +6,7 @@ ghost use Rattle.std.specs.FinMap as finite;
 ghost use Rattle.base.specs.history.Contents as history;
 ghost use Rattle.extents.specs.Patches.{laid_over};
 ghost use Rattle.extents.specs.Tables.{name_of, patches_of};
-ghost use Rattle.object_maps.specs.ContentsShown.{contents_of};
+ghost use Rattle.contents.specs.ContentsShown.{contents_of};
 ghost use Rattle.tree_blocks.specs.Lengths.{lengths_of};
 ghost use Rattle.records.specs.Records.{record_fields};
 ghost use Rattle.log_replay.specs.SmallChains.{creation, creation_chain, growing_chain, naming_chain};
@@ -16,8 +16,8 @@ ghost use Rattle.log_replay.specs.Replays.{IsChainAllowed};
 use crate::outline::Outline;
 use crate::replaying::{Replayed, replay};
 use base::{Group, PoolError};
+use contents::Contents;
 use intent_log::LoggedPiece;
-use object_maps::Contents;
 use std::alloc::Global;
 
 fn an_empty_chain_has_no_record(

@@ -1,12 +1,12 @@
 //! Whether the operations of a record can take place.
 
 ghost use Rattle.std.specs.Prelude.{◌≡◌, IfErr, OnOk};
-ghost use Rattle.object_maps.specs.Judging.{ApplyTo};
-ghost use Rattle.object_maps.specs.Ops.{AreOpsAllowed};
+ghost use Rattle.contents.specs.Judging.{ApplyTo};
+ghost use Rattle.contents.specs.Ops.{AreOpsAllowed};
 ghost use Rattle.log_replay.specs.Judged.{IsRefusedOver};
 
 use base::{Op, PoolError};
-use object_maps::judge;
+use contents::judge;
 use tree_blocks::ObjectSource;
 
 /// Judges the operations of a record of the piece at an address, over these objects. It takes no memory.

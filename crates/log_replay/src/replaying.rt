@@ -5,18 +5,18 @@ ghost use Rattle.base.specs.tree.Mount.{Placed, records_above};
 ghost use Rattle.base.specs.formats.Limits.{last_number};
 ghost use Rattle.extents.specs.Patches.{laid_over};
 ghost use Rattle.extents.specs.Tables.{AppliesOps, patches_of};
-ghost use Rattle.object_maps.specs.ContentsShown.{contents_of};
-ghost use Rattle.object_maps.specs.Judging.{ApplyTo};
-ghost use Rattle.object_maps.specs.Ops.{AreOpsAllowed};
+ghost use Rattle.contents.specs.ContentsShown.{contents_of};
+ghost use Rattle.contents.specs.Judging.{ApplyTo};
+ghost use Rattle.contents.specs.Ops.{AreOpsAllowed};
 ghost use Rattle.log_replay.specs.Judged.{IsRecordRefusal};
 ghost use Rattle.log_replay.specs.Walked.{HasReplayedTo};
 ghost use Rattle.log_replay.specs.Replays.{IsPieceAllowed, IsChainAllowed, IsReplay, IsReplayCause, IsReplayOf, IsReplayRefusal, IsRecordRefused};
 
 use crate::judging::judge_record;
 use base::{Group, PoolError};
+use contents::Contents;
 use extents::{Extents, Laid};
 use intent_log::LoggedPiece;
-use object_maps::Contents;
 use records::Record;
 use std::alloc::Global;
 

@@ -3,7 +3,7 @@ use Rattle.std.specs.Prelude.{ℕ, ◌+◌, false, [], None}
 use Rattle.std.specs.FinMap as finite
 use Rattle.base.specs.formats.Geometry.{block_count}
 use Rattle.base.specs.steps.Shown.{Shown, listed}
-use Rattle.object_maps.specs.ContentsShown.{contents_of}
+use Rattle.contents.specs.ContentsShown.{contents_of}
 use Rattle.tree_blocks.specs.Lengths.{lengths_of}
 use Rattle.mounted.specs.declared.mounted.Mounted.{Mounted}
 

@@ -8,8 +8,8 @@ ghost use Rattle.tree_blocks.specs.Pointers.{pointers_of};
 ghost use Rattle.space.specs.FreeSets.{IsIdle};
 
 use base::Group;
+use contents::Contents;
 use labels::Geometry;
-use object_maps::Contents;
 use space::FreeSet;
 use std::alloc::Global;
 use std::fmt;

@@ -11,8 +11,8 @@ use Rattle.base.specs.declared.operation.Op.TheVariants.{Create, Remove, SetLeng
 use Rattle.base.specs.history.Contents.{Contents, with_object}
 use Rattle.base.specs.history.History.{apply_all}
 use Rattle.base.proofs.history.Objects.{get-stored_same}
-use Rattle.object_maps.specs.ContentsShown.{Judges}
-use Rattle.object_maps.specs.Judging.{with_name}
+use Rattle.contents.specs.ContentsShown.{Judges}
+use Rattle.contents.specs.Judging.{with_name}
 
 pub judged_ok : (ops : List Op) (c after : Contents) (r : Result Unit PoolError) → Judges ops c r → apply_all ops c ≡ Ok after → r ≡ Ok tt
 judged_ok ops c after (Ok done) h is = refl

@@ -4,7 +4,7 @@ ghost use Rattle.std.specs.Prelude.{◌≡◌, ◌∷◌, [], None, Some};
 ghost use Rattle.std.specs.FinMap as finite;
 
 use base::{Bytes, ObjectId, Op, PoolError};
-use object_maps::judge;
+use contents::judge;
 use tree_blocks::ObjectSource;
 
 // An object that an earlier operation created may be removed.

@@ -1,6 +1,6 @@
-//! What callers of `tree_blocks`, `object_maps`, `block_cache`, `trees`, `extents` and `unsynced_extents` rest on: one
-//! function for each promise of their calls, proved from the contract of the call alone. So it is refused as soon as
-//! that contract says less.
+//! What callers of `tree_blocks`, `contents`, `object_maps`, `block_cache`, `trees`, `extents` and `unsynced_extents`
+//! rest on: one function for each promise of their calls, proved from the contract of the call alone. So it is refused
+//! as soon as that contract says less.
 #![tactic(auto)]
 
 mod blocks;

@@ -13,7 +13,7 @@ ghost use Rattle.base.specs.tree.Places.{directory_pointer, pointer_of};
 ghost use Rattle.base.specs.tree.Places.Place.{Data, Directory};
 ghost use Rattle.tree_blocks.specs.Lengths.{lengths_of};
 ghost use Rattle.object_maps.specs.BlockReads.{IsLoadRefusal};
-ghost use Rattle.object_maps.specs.ContentsShown.{objects_of};
+ghost use Rattle.contents.specs.ContentsShown.{objects_of};
 ghost use Rattle.space.specs.FreeSets.{is_free};
 
 use base::{Pointer, PoolError};

@@ -3,11 +3,11 @@
 ghost use Rattle.std.specs.Prelude.{◌≡◌, ◌∷◌, [], IfOk, None, Some, false, length, slice_get, true, vec_len};
 ghost use Rattle.std.specs.FinMap as finite;
 ghost use Rattle.base.specs.formats.Limits.{object_count};
-ghost use Rattle.object_maps.specs.ContentsShown.{contents_of, objects_of};
-ghost use Rattle.object_maps.specs.declared.contents.Slot.{Slot};
+ghost use Rattle.contents.specs.ContentsShown.{contents_of, objects_of};
+ghost use Rattle.contents.specs.declared.contents.Slot.{Slot};
 
 use base::{ObjectId, PoolName};
-use object_maps::{Contents, Slot, empty_slots};
+use contents::{Contents, Slot, empty_slots};
 use std::alloc::{AllocError, Global};
 use tree_blocks::ObjectSource;
 

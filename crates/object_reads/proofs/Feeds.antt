@@ -2,7 +2,7 @@
 use Rattle.std.proofs.Common.{◌≡◌, ℕ, List, ◌++◌, append_assoc, ap, subst, ◌∙◌}
 use Rattle.sha2.specs.Hashers.{Holds256}
 use Rattle.sha2.specs.declared.Sha256.{Sha256}
-use Rattle.object_maps.specs.Digests.{Feeds}
+use Rattle.object_reads.specs.Digests.{Feeds}
 
 pub feeds_both : (front back whole : List ℕ) (old middle new : Sha256) → Feeds front old middle → Feeds back middle new → front ++ back ≡ whole → Feeds whole old new
 feeds_both front back whole old middle new first second is = λ m h.

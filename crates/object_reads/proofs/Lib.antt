@@ -1,3 +1,4 @@
+pub mod RisingObjects
 pub mod SyncedObjects
 pub mod Feeds
 pub mod ReadParts

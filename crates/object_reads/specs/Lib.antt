@@ -1,1 +1,2 @@
 pub mod ShownTrees
+pub mod Digests

@@ -12,7 +12,7 @@ use Rattle.base.specs.tree.Places.Place.{Indirect, Data}
 use Rattle.base.specs.kept.PlacedTrees.{HoldsTree}
 use Rattle.device_model.specs.declared.device.SectorDevice.{Ghosts}
 use Rattle.object_maps.specs.Cached.{IsReadRefusal}
-use Rattle.object_maps.specs.ContentsShown.{contents_of}
+use Rattle.contents.specs.ContentsShown.{contents_of}
 use Rattle.tree_blocks.specs.Lengths.{HasLengthsOf}
 use Rattle.tree_blocks.specs.Pointers.{pointers_of}
 use Rattle.unsynced_extents.specs.Unsynced.{laid_all}

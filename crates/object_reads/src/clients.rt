@@ -6,7 +6,7 @@ ghost use Rattle.std.specs.FinMap as finite;
 ghost use Rattle.base.specs.declared.error.PoolError.TheVariants as error;
 ghost use Rattle.base.specs.formats.Digest.{digest_of};
 ghost use Rattle.base.specs.formats.Geometry.{block_address};
-ghost use Rattle.object_maps.specs.Judging.{with_name};
+ghost use Rattle.contents.specs.Judging.{with_name};
 ghost use Rattle.tree_blocks.specs.ListedObjects.{AreWithin};
 ghost use Rattle.object_reads.specs.ShownTrees.{StandsOn, shown_objects};
 

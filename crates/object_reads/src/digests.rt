@@ -9,8 +9,8 @@ ghost use Rattle.base.specs.formats.Geometry.{block_address};
 ghost use Rattle.base.specs.formats.Limits.{max_length, object_count};
 ghost use Rattle.device_model.specs.Reading.{OnlyReads};
 ghost use Rattle.object_maps.specs.Cached.{IsReadRefusal};
-ghost use Rattle.object_maps.specs.Digests.{Feeds, text_at};
-ghost use Rattle.object_maps.specs.Judging.{with_name};
+ghost use Rattle.object_reads.specs.Digests.{Feeds, text_at};
+ghost use Rattle.contents.specs.Judging.{with_name};
 ghost use Rattle.tree_blocks.specs.Sources.{object_bytes};
 ghost use Rattle.tree_blocks.specs.ListedObjects.{AreWithin};
 

@@ -15,8 +15,9 @@ ghost use Rattle.tree_blocks.specs.Sources.{AreBytesFrom, object_bytes, object_l
 use crate::pointer_blocks::PointerBlocks;
 use base::{ObjectId, POINTER_COUNT, PoolError};
 use checked_blocks::Frame;
+use contents::Contents;
 use extents::Laid;
-use object_maps::{BlockReader, Contents, read_part, record_pointer};
+use object_maps::{BlockReader, read_part, record_pointer};
 use tree_blocks::{ObjectSource, Tree, strip_number};
 use unsynced_extents::UnsyncedExtents;
 

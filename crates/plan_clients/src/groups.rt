@@ -6,7 +6,7 @@ ghost use Rattle.base.specs.common.Rising.{rising};
 ghost use Rattle.base.specs.formats.Geometry.{block_address, block_count};
 ghost use Rattle.base.specs.disk.Disk.{bytes_of};
 ghost use Rattle.base.specs.kept.PlacedTrees.{ArePlaced};
-ghost use Rattle.object_maps.specs.ContentsShown.{contents_of};
+ghost use Rattle.contents.specs.ContentsShown.{contents_of};
 ghost use Rattle.tree_blocks.specs.Pointers.{pointers_of};
 ghost use Rattle.tree_plans.specs.Plans.{AreApart, address_of};
 ghost use Rattle.tree_plans.specs.Pointers.{entry_of};
@@ -14,9 +14,10 @@ ghost use Rattle.group_plans.specs.OldMaps.{HoldsTreeOf};
 
 use base::PoolError;
 use checked_blocks::Frame;
+use contents::Contents;
 use extents::Extents;
 use group_plans::{GroupSource, plan_group};
-use object_maps::{BlockReader, Contents};
+use object_maps::BlockReader;
 use records::Record;
 use tree_plans::TreePlan;
 

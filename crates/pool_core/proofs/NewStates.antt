@@ -13,7 +13,7 @@ use Rattle.base.specs.steps.Shown.{Shown}
 use Rattle.base.specs.kept.Stored.{IsHeld, IsStored}
 use Rattle.base.specs.tree.Places.{IsInTree}
 use Rattle.base.proofs.common.KeptLists.{none_at}
-use Rattle.object_maps.specs.ContentsShown.{contents_of}
+use Rattle.contents.specs.ContentsShown.{contents_of}
 use Rattle.tree_blocks.specs.Pointers.{pointers_of}
 use Rattle.tree_blocks.specs.ListedObjects.{AreWithin}
 use Rattle.mounted.specs.declared.mounted.Mounted.{Mounted}

@@ -12,9 +12,9 @@ use Rattle.base.specs.history.Plans.{is_plan_allowed, log_record_size, shape_of}
 use Rattle.base.specs.steps.Groups.{Admission}
 use Rattle.base.specs.steps.Refusals.{gives_bad_name, is_same_plan, transaction_of}
 use Rattle.unsynced_extents.specs.Unsynced.{name_over}
-use Rattle.object_maps.specs.ContentsShown.{Judges}
-use Rattle.object_maps.specs.Judging.{JudgesOver}
-use Rattle.object_maps.specs.Ops.{AreOpsAllowed}
+use Rattle.contents.specs.ContentsShown.{Judges}
+use Rattle.contents.specs.Judging.{JudgesOver}
+use Rattle.contents.specs.Ops.{AreOpsAllowed}
 use Rattle.pool_tables.specs.declared.pool.PoolTables.{PoolTables}
 use Rattle.pool_tables.specs.Entries.{FitsRecord}
 use Rattle.pool_tables.specs.Shows.{pool_objects, pool_shown}

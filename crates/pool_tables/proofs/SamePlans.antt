@@ -8,7 +8,7 @@ use Rattle.base.specs.declared.operation.Op.{Op}
 use Rattle.base.specs.declared.operation.Shape.{Shape}
 use Rattle.base.specs.history.Plans.{shape_of, is_shape_allowed, is_plan_allowed}
 use Rattle.base.specs.steps.Refusals.{gives_bad_name}
-use Rattle.object_maps.specs.Ops.{AreOpsAllowed}
+use Rattle.contents.specs.Ops.{AreOpsAllowed}
 use Rattle.transactions.proofs.KeptRanges.{each_passes}
 
 -- if no element passes a test

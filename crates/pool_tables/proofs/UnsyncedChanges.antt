@@ -22,9 +22,9 @@ use Rattle.extents.proofs.LaidObjects.{laid_nothing}
 use Rattle.extents.proofs.LaidWithin.{stay_within}
 use Rattle.extents.proofs.PatchedObjects.{patched_nothing}
 use Rattle.unsynced_extents.proofs.UnsyncedGroups.{oldest_is_laid, oldest_name_is_laid}
-use Rattle.object_maps.specs.declared.contents.Contents as declared
-use Rattle.object_maps.specs.ContentsShown.{contents_of}
-use Rattle.object_maps.specs.Judging.{with_name}
+use Rattle.contents.specs.declared.contents.Contents as declared
+use Rattle.contents.specs.ContentsShown.{contents_of}
+use Rattle.contents.specs.Judging.{with_name}
 use Rattle.tree_blocks.specs.ListedObjects.{AreWithin}
 use Rattle.throttle.proofs.SumLaws.{open_within}
 use Rattle.records.specs.declared.record.Record.{Record}

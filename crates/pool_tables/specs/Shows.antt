@@ -12,7 +12,7 @@ use Rattle.intent_log.specs.Kept.{header_fields, log_shown}
 use Rattle.extents.specs.Synced.{patched_contents}
 use Rattle.unsynced_extents.specs.Unsynced.{changes_at, laid_all, name_at, name_over}
 use Rattle.tree_blocks.specs.declared.tree.Tree.{Tree}
-use Rattle.object_maps.specs.ContentsShown.{contents_of}
+use Rattle.contents.specs.ContentsShown.{contents_of}
 use Rattle.tree_blocks.specs.Lengths.{lengths_of}
 use Rattle.tree_plans.specs.declared.planner.PlannedBlock.{PlannedBlock}
 use Rattle.pool_tables.specs.declared.pool.RunningSync.{RunningSync}

@@ -5,8 +5,8 @@ use Rattle.base.specs.steps.Groups.{Line}
 use Rattle.unsynced_extents.specs.declared.unsynced.UnsyncedExtents.{UnsyncedExtents}
 use Rattle.extents.specs.Patches.{ArePatchesOf}
 use Rattle.unsynced_extents.specs.Unsynced.{changes_at, name_at}
-use Rattle.object_maps.specs.declared.contents.Contents.{Contents}
-use Rattle.object_maps.specs.ContentsShown.{contents_of}
+use Rattle.contents.specs.declared.contents.Contents.{Contents}
+use Rattle.contents.specs.ContentsShown.{contents_of}
 use Rattle.tree_blocks.specs.ListedObjects.{AreWithin}
 use Rattle.records.specs.declared.record.Record.{Record}
 use Rattle.tree_plans.specs.Marks.{pending_ops}

@@ -45,7 +45,7 @@ ghost use Rattle.base.specs.history.Plans.{number_range};
 ghost use Rattle.base.specs.steps.Refusals.{append_range, is_lock_in_use};
 ghost use Rattle.base.specs.steps.Shown as show;
 ghost use Rattle.unsynced_extents.specs.Unsynced.{name_at};
-ghost use Rattle.object_maps.specs.ContentsShown.{contents_of};
+ghost use Rattle.contents.specs.ContentsShown.{contents_of};
 ghost use Rattle.tree_blocks.specs.ListedObjects.{AreWithin};
 ghost use Rattle.tree_blocks.specs.Pointers.{pointers_of};
 ghost use Rattle.intent_log.specs.Kept.{header_fields, log_shown};
@@ -68,12 +68,13 @@ use base::{
     PoolError, PoolName, Range, Receipt, Status, WRITTEN_VERSION,
 };
 use checked_blocks::Frame;
+use contents::Contents;
 use extents::Laid;
 use groups::Groups;
 use intent_log::{Log, LogHeader};
 use labels::Geometry;
 use mounted::Mounted;
-use object_maps::{BlockReader, Contents};
+use object_maps::BlockReader;
 use object_reads::ShownTree;
 use range_locks::{HeldLock, HeldLocks, HeldPiece, RangeLocks};
 use space::FreeSet;

@@ -3,7 +3,7 @@
 ghost use Rattle.std.specs.Prelude.{◌≡◌, ◌<◌, ◌+◌, [], Err, None, false, true};
 ghost use Rattle.base.specs.history.Plans.{charge_of};
 ghost use Rattle.base.specs.steps.Refusals.{first_refusal};
-ghost use Rattle.object_maps.specs.ContentsShown.{contents_of};
+ghost use Rattle.contents.specs.ContentsShown.{contents_of};
 ghost use Rattle.tree_blocks.specs.ListedObjects.{AreWithin};
 ghost use Rattle.pool_tables.specs.BeginTests.{plan_tests};
 ghost use Rattle.pool_tables.specs.Shows.{pool_shown};

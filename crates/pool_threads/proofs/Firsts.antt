@@ -10,7 +10,7 @@ use Rattle.base.specs.history.Past.{Past, new_past}
 use Rattle.base.specs.steps.Explains.{IsLeftBy}
 use Rattle.mounted.specs.ShownMounted.{shown_of_import}
 use Rattle.mounted.specs.declared.mounted.Mounted.{Mounted}
-use Rattle.object_maps.specs.ContentsShown.{contents_of}
+use Rattle.contents.specs.ContentsShown.{contents_of}
 use Rattle.pool_core.specs.KeptSafe.{BeginsSafe, IsKeptSafe, disk_of, on_disk}
 use Rattle.base.proofs.crash.LeftDisks.{left_flushed}
 use Rattle.pool_core.proofs.crash.LeftDisks.{safe_at_first}

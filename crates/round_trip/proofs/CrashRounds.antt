@@ -27,7 +27,7 @@ use Rattle.base.specs.steps.Explains.{IsLeftBy}
 use Rattle.base.proofs.crash.LeftDisks.{IsLeftOnceFlushed, IsStillLeft, import_left, left_crashed, left_flushed}
 use Rattle.base.proofs.disk.Moments.{joins}
 use Rattle.device_model.specs.declared.device.SectorDevice.{Ghosts}
-use Rattle.object_maps.specs.ContentsShown.{contents_of}
+use Rattle.contents.specs.ContentsShown.{contents_of}
 use Rattle.import_replay.specs.Creations.{IsNewPool}
 use Rattle.import_replay.specs.ImportRefusals.{CanImport, FindsOwn, IsImportRefusal, IsReason}
 use Rattle.mounted.specs.ShownMounted.{shown_of_import}

@@ -10,7 +10,7 @@ ghost use Rattle.std.specs.Prelude.{◌≡◌, ◌⊎◌, IfErr, IfOk, IsTrue};
 ghost use Rattle.base.specs.kept.Imports.{is_dirty_max_allowed};
 ghost use Rattle.base.specs.disk.Disk.{bytes_of, disk_size};
 ghost use Rattle.base.specs.history.Past.{Past};
-ghost use Rattle.object_maps.specs.ContentsShown.{contents_of};
+ghost use Rattle.contents.specs.ContentsShown.{contents_of};
 ghost use Rattle.import_replay.specs.CreateRefusals.{IsCreateRefusal};
 ghost use Rattle.import_replay.specs.ImportRefusals.{IsImportRefusal};
 ghost use Rattle.base.specs.kept.LeftDisks.{IsLeft};

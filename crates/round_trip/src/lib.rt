@@ -16,7 +16,7 @@ ghost use Rattle.import_replay.specs.Mounts.{IsMountedAnew};
 ghost use Rattle.import_replay.specs.OwnCreations.{first_contents};
 ghost use Rattle.import_replay.specs.RunStarts.{StartsRun};
 ghost use Rattle.base.specs.kept.LeftDisks.{GoesOnFrom};
-ghost use Rattle.object_maps.specs.ContentsShown.{contents_of};
+ghost use Rattle.contents.specs.ContentsShown.{contents_of};
 ghost use Rattle.round_trip.specs.Rounds.{IsOpened, ShowsMountedContents};
 
 mod clients;

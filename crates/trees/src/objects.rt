@@ -10,11 +10,11 @@ ghost use Rattle.base.specs.formats.Limits.{object_count, pointer_count};
 ghost use Rattle.trees.specs.FreeBlocks.{AreMarked, AreUnnamed};
 ghost use Rattle.tree_blocks.specs.Lengths.{HaveLengthsOf};
 ghost use Rattle.trees.specs.Loading.{AreEmptyFrom};
-ghost use Rattle.object_maps.specs.ContentsShown.{objects_of};
+ghost use Rattle.contents.specs.ContentsShown.{objects_of};
 
 use crate::marks::{take_block, take_blocks};
 use base::{Pointer, Told};
-use object_maps::{BytesView, Slot, empty_slots};
+use contents::{BytesView, Slot, empty_slots};
 use space::FreeSet;
 use std::alloc::{AllocError, Global};
 use tree_blocks::{ObjectEntry, Tree, empty_entries};

@@ -17,7 +17,7 @@ ghost use Rattle.trees.specs.DamageLists.{AddsTold};
 ghost use Rattle.trees.specs.FreeBlocks.{ObjectNames, StripNames, StripsName, TakesNamed};
 ghost use Rattle.trees.specs.Loaders.{LoadsFrom, OnWalk};
 ghost use Rattle.object_maps.specs.BlockReads.{OnImage};
-ghost use Rattle.object_maps.specs.Bytes.{AreBytes};
+ghost use Rattle.contents.specs.Bytes.{AreBytes};
 ghost use Rattle.trees.specs.Loading.{AreLoadedDirectories, AreLoadedEntries, AreLoadedLevels, AreLoadedRecords, AreLoadedStrips, HasZeroRecord, IsLoadedObject, IsLoadedRecord, IsLoadedStrip, IsLoadedTree, KeepsOthers, LoadsDirectory};
 ghost use Rattle.object_maps.specs.BlockReads.{IsLoadRefusal};
 ghost use Rattle.trees.specs.Noted.{Finds, Notes, kept_entry};
@@ -35,8 +35,9 @@ use base::{
     ENTRY_COUNT, ObjectId, POINTER_COUNT, Pointer, PoolError, RECORD_SIZE, Told, are_zeros,
 };
 use checked_blocks::Kind;
+use contents::{BytesView, with_bytes, zero_bytes};
 use device_model::SectorDevice;
-use object_maps::{BytesView, damaged, new_buffer, payload_of, read_block, with_bytes, zero_bytes};
+use object_maps::{damaged, new_buffer, payload_of, read_block};
 use space::FreeSet;
 use std::alloc::Global;
 use tree_blocks::{

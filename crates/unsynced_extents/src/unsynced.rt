@@ -30,7 +30,7 @@ impl UnsyncedExtents {
     ghost use Rattle.base.specs.formats.Limits.{record_count, record_size};
     ghost use Rattle.unsynced_extents.specs.LaidReads.{HidesAll, LaysOnAll};
     ghost use Rattle.base.specs.formats.Records.{is_content_allowed};
-    ghost use Rattle.object_maps.specs.Ops.{AreOpsAllowed};
+    ghost use Rattle.contents.specs.Ops.{AreOpsAllowed};
     ghost use Rattle.extents.specs.Patches.{no_patch};
     ghost use Rattle.unsynced_extents.specs.Unsynced.{AppliesAt, CanApplyAt, CanStillApplyAt, KeepsOtherPlaces, LeavesChanges, MovesUp, RoomMovesUp, changes_at, extents_at, laid_all, name_at, name_over};
 

@@ -2,14 +2,14 @@
 
 ghost use Rattle.std.specs.Prelude.{◌≡◌, ◌∷◌, [], IfOk, None, OnOk, Some};
 ghost use Rattle.extents.specs.Patches.{no_patch};
-ghost use Rattle.object_maps.specs.ContentsShown.{contents_of};
+ghost use Rattle.contents.specs.ContentsShown.{contents_of};
 ghost use Rattle.extents.specs.Tables.{name_of, patches_of};
 ghost use Rattle.unsynced_extents.specs.Unsynced.{changes_at, extents_at, name_at};
 ghost use Rattle.extents.specs.declared.basis.Basis.TheVariants as basis;
 
 use base::{Bytes, ObjectId, Op, PoolName};
+use contents::Contents;
 use extents::Extents;
-use object_maps::Contents;
 use std::alloc::{AllocError, Global};
 use unsynced_extents::UnsyncedExtents;
 

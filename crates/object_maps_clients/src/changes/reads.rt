@@ -2,15 +2,15 @@
 
 ghost use Rattle.std.specs.Prelude.{ℕ, ◌≡◌, ◌∷◌, [], None, Some, false, get_or, length};
 ghost use Rattle.std.specs.FinMap as finite;
-ghost use Rattle.object_maps.specs.ContentsShown.{contents_of};
+ghost use Rattle.contents.specs.ContentsShown.{contents_of};
 ghost use Rattle.extents.specs.Patches.{no_patch};
 ghost use Rattle.extents.specs.Tables.{patches_of};
 ghost use Rattle.unsynced_extents.specs.Unsynced.{changes_at};
 ghost use Rattle.extents.specs.declared.basis.Basis.TheVariants as basis;
 
 use base::ObjectId;
+use contents::Contents;
 use extents::Extents;
-use object_maps::Contents;
 use unsynced_extents::UnsyncedExtents;
 
 // Of an object that was cut to its first byte, and made three bytes long again, that byte shows and then zeros.

@@ -18,7 +18,7 @@ use Rattle.device_model.specs.declared.device.SectorDevice.{Ghosts}
 use Rattle.mounted.specs.ShownMounted.{shown_of_import}
 use Rattle.import_replay.specs.RunStarts.{IsRunStart, StartsRun}
 use Rattle.mounted.specs.declared.mounted.Mounted.{Mounted}
-use Rattle.object_maps.specs.ContentsShown.{contents_of}
+use Rattle.contents.specs.ContentsShown.{contents_of}
 use Rattle.pool_core.specs.KeptSafe.{BeginsSafe, IsKeptSafe, IsSafeStep, OnDisk, disk_of, on_disk}
 use Rattle.pool_core.specs.NewStates.{IsHeldAtFirst, first_past}
 use Rattle.pool_core.specs.States.{shown, told}

@@ -10,7 +10,7 @@ ghost use Rattle.base.specs.steps.Groups.{Admission};
 ghost use Rattle.base.specs.steps.Refusals as refusals;
 ghost use Rattle.base.specs.steps.Refusals.{blocks_wanted, transaction_of};
 ghost use Rattle.base.specs.steps.Shown as show;
-ghost use Rattle.object_maps.specs.Ops.{AreOpsAllowed};
+ghost use Rattle.contents.specs.Ops.{AreOpsAllowed};
 ghost use Rattle.records.specs.declared.record.Record.{Record};
 ghost use Rattle.pool_tables.specs.BeginTests.{plan_tests};
 ghost use Rattle.pool_tables.specs.Meets.{Passes};
@@ -20,7 +20,7 @@ use base::{
     BLOCK_SIZE, Group, KEPT_BACK, LAST_NUMBER, Op, Ops, Ordinal, Owner, Plan, PoolError, Receipt,
     Shape, TxId, is_name,
 };
-use object_maps::judge;
+use contents::judge;
 use records::{Record, is_too_large};
 use transactions::{charge, estimate, is_in_plan, is_plan_allowed, is_shrinking, range_of};
 

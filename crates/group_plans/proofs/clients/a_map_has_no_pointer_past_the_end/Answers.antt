@@ -5,7 +5,7 @@ use Rattle.std.proofs.lemmas.Result.{IfOk-weaker}
 use Rattle.base.specs.declared.pointer.Pointer.{Pointer}
 use Rattle.base.specs.tree.Places.{record_start, strip_number}
 use Rattle.object_maps.specs.Cached.{BeginsInside}
-use Rattle.object_maps.specs.ContentsShown.{contents_of}
+use Rattle.contents.specs.ContentsShown.{contents_of}
 use Rattle.tree_blocks.specs.Pointers.{pointer_of_list}
 use Rattle.group_plans.specs.OldMaps.{AreMapRecords, size_in}
 use Rattle.group_plans.proofs.clients.a_map_has_no_pointer_past_the_end.Goals as goal

@@ -4,7 +4,7 @@ use Rattle.base.specs.declared.names.ObjectId.{ObjectId}
 use Rattle.tree_plans.specs.declared.changes.ObjectChanges.{ObjectChanges}
 use Rattle.tree_plans.specs.Marks.{AreChangesOf, pending_ops}
 use Rattle.base.specs.disk.Disk.{Disk, bytes_of}
-use Rattle.object_maps.specs.ContentsShown.{contents_of}
+use Rattle.contents.specs.ContentsShown.{contents_of}
 use Rattle.group_plans.specs.GroupPlans.{frame_planned, objects_with}
 use Rattle.group_plans.specs.OldMaps.{AreMapsOf, HoldsTreeOf}
 use Rattle.group_plans.proofs.ReadPlans.{group_held, group_short, group_tree, tree_short}

@@ -10,8 +10,8 @@ use Rattle.base.specs.formats.Geometry.{block_count}
 use Rattle.base.specs.kept.PlacedTrees.{ArePlaced}
 use Rattle.base.proofs.tree.SamePlaces.{holds_as}
 use Rattle.extents.specs.declared.extents.Extents.{Extents}
-use Rattle.object_maps.specs.ContentsShown.{contents_of}
-use Rattle.object_maps.specs.declared.contents.Contents as slots
+use Rattle.contents.specs.ContentsShown.{contents_of}
+use Rattle.contents.specs.declared.contents.Contents as slots
 use Rattle.tree_blocks.specs.Pointers.{pointers_of}
 use Rattle.tree_plans.specs.declared.changes.ObjectChanges.{ObjectChanges}
 use Rattle.tree_plans.specs.declared.planner.TreePlan.{TreePlan}

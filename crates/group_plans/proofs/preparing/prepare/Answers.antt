@@ -4,7 +4,7 @@ use Rattle.std.proofs.lemmas.Result.{err_from_is_err_and}
 use Rattle.base.specs.declared.names.ObjectId.{ObjectId}
 use Rattle.base.specs.disk.Disk.{bytes_of}
 use Rattle.base.specs.kept.PlacedTrees.{HoldsTree}
-use Rattle.object_maps.specs.ContentsShown.{contents_of}
+use Rattle.contents.specs.ContentsShown.{contents_of}
 use Rattle.tree_plans.specs.declared.changes.ObjectChanges.{ObjectChanges}
 use Rattle.tree_plans.specs.Pointers.{entry_of, pointers_before}
 use Rattle.tree_plans.proofs.Walks.{found_of, next_of}

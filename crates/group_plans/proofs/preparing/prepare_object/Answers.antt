@@ -7,7 +7,7 @@ use Rattle.base.specs.disk.Disk.{bytes_of}
 use Rattle.base.specs.tree.Places.{record_of_strip}
 use Rattle.base.specs.tree.Syncs.{is_dirty}
 use Rattle.base.proofs.tree.Strips.{record-back, record-count}
-use Rattle.object_maps.specs.ContentsShown.{contents_of}
+use Rattle.contents.specs.ContentsShown.{contents_of}
 use Rattle.tree_plans.specs.Changes.{state_at}
 use Rattle.tree_plans.proofs.Order.{passes_at}
 use Rattle.group_plans.specs.GroupPlans.{objects_with}

@@ -3,7 +3,7 @@ use Rattle.std.proofs.lemmas.Bool.{cases_lt}
 use Rattle.std.proofs.lemmas.Result.{err_from_is_err_and}
 use Rattle.base.specs.disk.Disk.{bytes_of}
 use Rattle.base.specs.tree.Places.{record_of_strip}
-use Rattle.object_maps.specs.ContentsShown.{contents_of}
+use Rattle.contents.specs.ContentsShown.{contents_of}
 use Rattle.tree_blocks.specs.ReadPointers.{read_record}
 use Rattle.tree_blocks.specs.declared.place.RecordPlace.{RecordPlace}
 use Rattle.group_plans.specs.GroupPlans.{objects_with}

@@ -3,7 +3,7 @@ use Rattle.base.specs.disk.Disk.{bytes_of}
 use Rattle.base.specs.tree.Places.{record_start, strip_number}
 use Rattle.base.specs.tree.Tree.{IsRecord}
 use Rattle.base.proofs.tree.Strips.{record-low}
-use Rattle.object_maps.specs.ContentsShown.{contents_of}
+use Rattle.contents.specs.ContentsShown.{contents_of}
 use Rattle.tree_blocks.specs.Sources.{AreBytesFrom, object_length}
 use Rattle.extents.specs.Tables.{patches_of}
 use Rattle.group_plans.specs.Prepared.{number_of_record}

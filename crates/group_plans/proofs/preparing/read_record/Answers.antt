@@ -1,6 +1,6 @@
 use Rattle.std.proofs.Common.{◌∙◌}
 use Rattle.base.proofs.tree.Strips.{record-low}
-use Rattle.object_maps.specs.ContentsShown.{contents_of}
+use Rattle.contents.specs.ContentsShown.{contents_of}
 use Rattle.extents.specs.Tables.{patches_of}
 use Rattle.group_plans.specs.Prepared.{number_of_record}
 use Rattle.group_plans.proofs.RecordReads.{laid_record}

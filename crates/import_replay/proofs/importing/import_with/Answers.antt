@@ -6,7 +6,7 @@ use Rattle.base.specs.formats.Geometry.{IsGeometry}
 use Rattle.base.specs.history.Past.{new_past}
 use Rattle.base.specs.steps.Tables.{AreTablesExplained}
 use Rattle.block_cache.specs.CachedDevices.{device_in}
-use Rattle.object_maps.specs.ContentsShown.{contents_of}
+use Rattle.contents.specs.ContentsShown.{contents_of}
 use Rattle.import_replay.specs.ImportRefusals.{IsImportRefusal}
 use Rattle.import_replay.specs.Mounts.{IsImport, StandsOnDevice}
 use Rattle.mounted.specs.ShownMounted.{shown_of_import}

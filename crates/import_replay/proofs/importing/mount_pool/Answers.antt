@@ -3,7 +3,7 @@ use Rattle.base.specs.declared.error.PoolError.TheVariants.{TooMany}
 use Rattle.base.specs.disk.Disk.{Disk, bytes_of}
 use Rattle.base.specs.formats.Chain.{LogPiece}
 use Rattle.base.specs.formats.Uberblocks.{Uberblock}
-use Rattle.object_maps.specs.declared.contents.Slot.{Slot}
+use Rattle.contents.specs.declared.contents.Slot.{Slot}
 use Rattle.tree_blocks.specs.declared.tree.Tree.{Tree}
 use Rattle.uberblocks.specs.Slots.{fields_of}
 use Rattle.import_replay.specs.Found.{HasFirstStage}

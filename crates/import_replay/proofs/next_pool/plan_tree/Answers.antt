@@ -8,7 +8,7 @@ use Rattle.base.specs.formats.Uberblocks.{Uberblock}
 use Rattle.base.specs.tree.Places.{Place}
 use Rattle.group_plans.specs.GroupPlans.{HoldsGroupObjects, IsShortOfBlocks}
 use Rattle.group_plans.specs.OldMaps.{HoldsTreeOf}
-use Rattle.object_maps.specs.ContentsShown.{contents_of}
+use Rattle.contents.specs.ContentsShown.{contents_of}
 use Rattle.tree_blocks.specs.Pointers.{pointers_of}
 use Rattle.records.specs.declared.record.Record.{Record}
 use Rattle.uberblocks.specs.Slots.{fields_of}

@@ -4,7 +4,7 @@ use Rattle.std.specs.List.{list_any}
 use Rattle.base.specs.formats.Chain.{LogPiece}
 use Rattle.base.specs.formats.Geometry.{block_count}
 use Rattle.trees.specs.FreeBlocks.{BlocksTaken}
-use Rattle.object_maps.specs.declared.contents.Slot.{Slot}
+use Rattle.contents.specs.declared.contents.Slot.{Slot}
 use Rattle.space.specs.FreeSets.{FreeSpace}
 use Rattle.import_replay.specs.FreeBlocks.{logs_block}
 use Rattle.import_replay.proofs.FreeBlocks.{unused-from_taken}

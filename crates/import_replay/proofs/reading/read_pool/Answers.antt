@@ -5,7 +5,7 @@ use Rattle.uberblocks.specs.Slots.{fields_of}
 use Rattle.import_replay.specs.ImportRefusals.{IsReason}
 use Rattle.base.specs.formats.Blocks.{Frame}
 use Rattle.base.specs.kept.PlacedTrees.{ArePlaced}
-use Rattle.object_maps.specs.ContentsShown.{objects_of}
+use Rattle.contents.specs.ContentsShown.{objects_of}
 use Rattle.tree_blocks.specs.Pointers.{pointers_of}
 use Rattle.import_replay.proofs.ReadPools.{is_read_damaged, is_read_pool}
 use Rattle.import_replay.proofs.Reasons.{passed_on, reason-chain, reason-load}

@@ -1,5 +1,5 @@
 use Rattle.std.proofs.lemmas.Result.{IfOk-weaker}
-use Rattle.object_maps.specs.ContentsShown.{contents_of}
+use Rattle.contents.specs.ContentsShown.{contents_of}
 use Rattle.log_replay.proofs.Callers.{pool_named}
 use Rattle.log_replay.proofs.clients.a_record_names_the_pool.Goals as goal
 

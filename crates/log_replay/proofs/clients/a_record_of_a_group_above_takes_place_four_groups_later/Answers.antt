@@ -1,5 +1,5 @@
 use Rattle.std.proofs.lemmas.Result.{IfOk-weaker}
-use Rattle.object_maps.specs.ContentsShown.{contents_of}
+use Rattle.contents.specs.ContentsShown.{contents_of}
 use Rattle.log_replay.proofs.Callers.{object_created}
 use Rattle.log_replay.proofs.clients.a_record_of_a_group_above_takes_place_four_groups_later.Goals as goal
 

@@ -1,5 +1,5 @@
 use Rattle.std.proofs.lemmas.Result.{IfErr-weaker}
-use Rattle.object_maps.specs.ContentsShown.{contents_of}
+use Rattle.contents.specs.ContentsShown.{contents_of}
 use Rattle.log_replay.proofs.Callers.{creation_reported}
 use Rattle.log_replay.proofs.clients.a_record_that_is_refused_is_a_damage_of_its_piece.Goals as goal
 

@@ -3,7 +3,7 @@ use Rattle.std.specs.Vec.Iter.{into_iter_items}
 use Rattle.std.proofs.lemmas.List.{nil_from_length}
 use Rattle.std.proofs.lemmas.Result.{err_from_is_err_and}
 use Rattle.base.specs.tree.Mount.{records_above}
-use Rattle.object_maps.specs.ContentsShown.{contents_of}
+use Rattle.contents.specs.ContentsShown.{contents_of}
 use Rattle.log_replay.proofs.ChainWalks.{at_first_piece, piece_applied, piece_refused, chain_walked}
 use Rattle.log_replay.proofs.RefusedRecords.{none_reached}
 use Rattle.log_replay.proofs.replaying.replay.Goals as goal

@@ -1,6 +1,6 @@
 use Rattle.std.proofs.Common.{[], ◌∷◌}
 use Rattle.base.specs.declared.operation.Op.TheVariants.{Create, Remove}
-use Rattle.object_maps.specs.Judging.{with_name}
+use Rattle.contents.specs.Judging.{with_name}
 use Rattle.object_maps_clients.proofs.JudgedLists.{judged_ok, create-remove}
 use Rattle.object_maps_clients.proofs.judged.a_created_object_may_be_removed.Goals as goal
 

@@ -1,6 +1,6 @@
 use Rattle.std.proofs.Common.{[], ◌∷◌, refl}
 use Rattle.base.specs.declared.operation.Op.TheVariants.{SetName}
-use Rattle.object_maps.specs.Judging.{with_name}
+use Rattle.contents.specs.Judging.{with_name}
 use Rattle.object_maps_clients.proofs.JudgedLists.{judged_ok}
 use Rattle.object_maps_clients.proofs.judged.a_new_name_is_not_refused.Goals as goal
 

@@ -1,6 +1,6 @@
 use Rattle.std.proofs.Common.{[], ◌∷◌}
 use Rattle.base.specs.declared.operation.Op.TheVariants.{Remove, SetLength}
-use Rattle.object_maps.specs.Judging.{with_name}
+use Rattle.contents.specs.Judging.{with_name}
 use Rattle.object_maps_clients.proofs.JudgedLists.{judged_err, remove-set_length}
 use Rattle.object_maps_clients.proofs.judged.a_removed_object_is_not_there.Goals as goal
 

@@ -1,6 +1,6 @@
 use Rattle.std.proofs.Common.{[], ◌∷◌}
 use Rattle.base.specs.declared.operation.Op.TheVariants.{Create}
-use Rattle.object_maps.specs.Judging.{with_name}
+use Rattle.contents.specs.Judging.{with_name}
 use Rattle.object_maps_clients.proofs.JudgedLists.{judged_err, create-again}
 use Rattle.object_maps_clients.proofs.judged.an_object_is_created_once.Goals as goal
 

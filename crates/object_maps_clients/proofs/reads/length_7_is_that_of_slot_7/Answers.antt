@@ -1,9 +1,9 @@
 use Rattle.std.proofs.Common.{◌≡◌, ◌∙◌, ℕ, List, Option, Some, ap, length, refl, true}
 use Rattle.std.specs.Prelude.{None, option_map, slice_get}
 use Rattle.std.specs.Option.{option_map_or}
-use Rattle.object_maps.specs.declared.contents.Slot.{Slot}
-use Rattle.object_maps.specs.ContentsShown.{object_of}
-use Rattle.object_maps.proofs.ContentsShown.{get-objects}
+use Rattle.contents.specs.declared.contents.Slot.{Slot}
+use Rattle.contents.specs.ContentsShown.{object_of}
+use Rattle.contents.proofs.ContentsShown.{get-objects}
 use Rattle.object_maps_clients.proofs.reads.length_7_is_that_of_slot_7.Goals as goal
 
 shown : (slots : List Slot) (s : Slot) → slice_get slots 7 ≡ Some s → s.present ≡ true → option_map_or object_of (slice_get slots 7) None ≡ Some s.bytes.value

@@ -1,6 +1,6 @@
 use Rattle.std.proofs.Common.{◌≡◌, true, false, refl, ap, ◌∙◌, arith}
 use Rattle.base.specs.formats.Limits.{object_count}
-use Rattle.object_maps.proofs.RisingObjects.{count_below, count_below-all, counted_next}
+use Rattle.object_reads.proofs.RisingObjects.{count_below, count_below-all, counted_next}
 use Rattle.object_reads.proofs.digests.count.Goals as goal
 use Rattle.object_reads.proofs.digests.count.Goals.{then-has, else-has}
 

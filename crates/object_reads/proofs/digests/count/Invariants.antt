@@ -1,5 +1,5 @@
 use Rattle.std.proofs.Common.{◌≡◌, ◌≤◌}
-use Rattle.object_maps.proofs.RisingObjects.{count_below}
+use Rattle.object_reads.proofs.RisingObjects.{count_below}
 use Rattle.object_reads.proofs.digests.count.Given as goal
 
 -- the objects below this number are counted

@@ -2,7 +2,7 @@ use Rattle.std.proofs.Common.{◌∙◌, inr, sym, refl, rules}
 use Rattle.std.specs.Prelude.{Err, Ok}
 use Rattle.std.specs.Vec.Iter.{into_iter_items}
 use Rattle.std.proofs.lemmas.Result.{err_from_is_err_and}
-use Rattle.object_maps.specs.ContentsShown.{contents_of}
+use Rattle.contents.specs.ContentsShown.{contents_of}
 use Rattle.round_trip.proofs.CrashRounds.{all_over, last_import, last_refusal, one_more}
 use Rattle.round_trip.proofs.crashes.go_rounds.Goals as goal
 

@@ -5,7 +5,7 @@ use Rattle.std.specs.FinMap.{FinMap}
 use Rattle.std.proofs.lemmas.Result.{err_from_is_err_and}
 use Rattle.base.specs.disk.Disk.{bytes_of}
 use Rattle.tree_blocks.specs.Lengths.{HaveLengthsOf}
-use Rattle.object_maps.specs.ContentsShown.{objects_of}
+use Rattle.contents.specs.ContentsShown.{objects_of}
 use Rattle.space.specs.FreeSets.{HasAllOf}
 use Rattle.trees.proofs.FreeBlocks.{marked_new}
 use Rattle.trees.proofs.LoadedTrees.{no_pointers, whole_tree}

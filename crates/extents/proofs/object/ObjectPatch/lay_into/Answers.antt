@@ -1,6 +1,6 @@
 use Rattle.std.proofs.Common.{◌≡◌, ◌∙◌, ℕ, List, [], length, Option, Some, None, ap, sym}
 use Rattle.std.specs.Prelude.{option_map, unwrap_or}
-use Rattle.object_maps.specs.ContentsShown.{object_of}
+use Rattle.contents.specs.ContentsShown.{object_of}
 use Rattle.extents.specs.Objects.{patch_of}
 use Rattle.extents.specs.Patches.{length_over, patched}
 use Rattle.extents.proofs.PatchedObjects.{patched_length}

@@ -2,7 +2,7 @@ use Rattle.std.proofs.Common.{◌≡◌, ◌∷◌, refl, ap, map, ◌∙◌}
 use Rattle.std.specs.Vec.Iter.{into_iter_items}
 use Rattle.std.proofs.lemmas.Bool.{le-ltb, lt-ltb}
 use Rattle.std.proofs.lemmas.Result.{err_from_is_err_and}
-use Rattle.object_maps.specs.ContentsShown.{contents_of}
+use Rattle.contents.specs.ContentsShown.{contents_of}
 use Rattle.records.specs.Records.{record_fields}
 use Rattle.log_replay.proofs.ChainWalks.{applied, at_first, next_ops, passed, refused}
 use Rattle.log_replay.proofs.replaying.Replayed.apply_piece.Goals as goal

@@ -1,5 +1,5 @@
 use Rattle.std.specs.Vec.Iter.{into_iter_items}
-use Rattle.object_maps.specs.ContentsShown.{contents_of}
+use Rattle.contents.specs.ContentsShown.{contents_of}
 use Rattle.log_replay.specs.Walked.{IsAtRecords}
 use Rattle.log_replay.proofs.replaying.Replayed.apply_piece.Given as goal
 

@@ -1,7 +1,7 @@
 use Rattle.std.proofs.Common.{◌∙◌, ap, arith}
 use Rattle.std.specs.FinMap as finite
 use Rattle.base.specs.history.Contents.{Contents}
-use Rattle.object_maps.specs.ContentsShown.{contents_of}
+use Rattle.contents.specs.ContentsShown.{contents_of}
 use Rattle.extents.specs.Tables.{patches_of}
 use Rattle.extents.proofs.LaidObjects.{get-laid_over}
 use Rattle.object_maps_clients.proofs.SmallObjects.{cut-three}

@@ -5,7 +5,7 @@ use Rattle.std.proofs.lemmas.Result.{err_from_is_err_and}
 use Rattle.sha2.specs.Hashers.{Holds256}
 use Rattle.sha2.specs.Sha256.{sha256}
 use Rattle.base.specs.formats.Limits.{object_count}
-use Rattle.object_maps.proofs.RisingObjects.{text_so_far, text_so_far-start, text_so_far-next, text_so_far-all}
+use Rattle.object_reads.proofs.RisingObjects.{text_so_far, text_so_far-start, text_so_far-next, text_so_far-all}
 use Rattle.object_reads.specs.ShownTrees.{shown_objects}
 use Rattle.object_reads.proofs.SyncedObjects.{stands_still}
 use Rattle.object_reads.proofs.shown_tree.ShownTree.digest.Goals as goal

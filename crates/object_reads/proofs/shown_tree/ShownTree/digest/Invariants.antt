@@ -1,7 +1,7 @@
 use Rattle.std.proofs.Common.{◌≡◌}
 use Rattle.std.specs.Prelude.{IsTrue}
 use Rattle.sha2.specs.Hashers.{Holds256}
-use Rattle.object_maps.proofs.RisingObjects.{text_so_far}
+use Rattle.object_reads.proofs.RisingObjects.{text_so_far}
 use Rattle.object_reads.specs.ShownTrees.{StandsOn, shown_objects}
 use Rattle.object_reads.proofs.shown_tree.ShownTree.digest.Given as goal
 

@@ -1,6 +1,6 @@
 use Rattle.std.proofs.Common.{◌≡◌, ◌*◌, take}
 use Rattle.std.specs.Prelude.{IsTrue}
-use Rattle.object_maps.specs.Digests.{Feeds}
+use Rattle.object_reads.specs.Digests.{Feeds}
 use Rattle.tree_blocks.specs.Sources.{object_bytes}
 use Rattle.object_reads.specs.ShownTrees.{ArePointerBlocksOf, StandsOn, shown_objects}
 use Rattle.object_reads.proofs.shown_tree.ShownTree.feed_bytes.Given as goal

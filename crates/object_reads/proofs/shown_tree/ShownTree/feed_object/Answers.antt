@@ -2,9 +2,9 @@ use Rattle.std.proofs.Common.{◌≡◌, ◌++◌, List, ℕ, ap, ◌∙◌, ref
 use Rattle.std.specs.FinMap as finite
 use Rattle.std.specs.Int.{to_le_bytes, w32}
 use Rattle.std.proofs.lemmas.Result.{on_ok_weaker}
-use Rattle.object_maps.specs.Digests.{Feeds, text_at}
+use Rattle.object_reads.specs.Digests.{Feeds, text_at}
 use Rattle.tree_blocks.specs.Sources.{object_bytes}
-use Rattle.object_maps.proofs.RisingObjects.{text_at-there}
+use Rattle.object_reads.proofs.RisingObjects.{text_at-there}
 use Rattle.object_reads.specs.ShownTrees.{shown_objects}
 use Rattle.object_reads.proofs.Feeds.{feeds_both}
 use Rattle.object_reads.proofs.ReadParts.{within_long}

@@ -11,7 +11,7 @@ use Rattle.intent_log.proofs.RunLogs.{first_log}
 use Rattle.throttle.specs.Blocks.{blocks_in}
 use Rattle.throttle.proofs.BlockSums.{blocks_of-empty}
 use Rattle.throttle.proofs.ShownSums.{new_sums_are_on_lines}
-use Rattle.object_maps.specs.ContentsShown.{contents_of}
+use Rattle.contents.specs.ContentsShown.{contents_of}
 use Rattle.base.proofs.formats.BlockTests.{block_passes}
 use Rattle.pool_tables.proofs.Charges.{total-behind}
 use Rattle.pool_tables.proofs.HeldGroups.{counted_new, exact_new}

@@ -1,4 +1,4 @@
-use Rattle.object_maps.proofs.ContentsShown.{all_absent}
+use Rattle.contents.proofs.ContentsShown.{all_absent}
 use Rattle.trees.proofs.objects.Objects.new.Goals as goal
 
 pub returns-clause-objects : goal.returns-clause-objects

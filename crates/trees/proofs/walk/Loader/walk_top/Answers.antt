@@ -9,7 +9,7 @@ use Rattle.base.specs.tree.Places.{strip_start, walk_index_of_object}
 use Rattle.base.specs.tree.Places.Place.{Top}
 use Rattle.base.specs.tree.Tree.{OpensAt}
 use Rattle.tree_blocks.specs.Forms.{AreStripForms}
-use Rattle.object_maps.specs.Bytes.{AreBytes}
+use Rattle.contents.specs.Bytes.{AreBytes}
 use Rattle.tree_blocks.specs.Pointers.{strip_in}
 use Rattle.trees.proofs.DamageLists.{formless_added, missing_added, no_damages}
 use Rattle.trees.proofs.LoadedBlocks.{still_shows}

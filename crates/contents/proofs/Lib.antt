@@ -1,0 +1,3 @@
+pub mod ContentsShown
+pub mod Judged
+pub mod Bytes

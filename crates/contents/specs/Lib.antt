@@ -1,0 +1,5 @@
+pub mod Ops
+pub mod Presence
+pub mod ContentsShown
+pub mod Judging
+pub mod Bytes

@@ -1,7 +1,0 @@
-use Rattle.std.proofs.Common.{take}
-use Rattle.object_maps.specs.Judging.{ApplyTo}
-use Rattle.object_maps.proofs.judging.judge_few.Given as goal
-
--- the operations so far can take place in order
-abbrev pub invariant-loop-i : goal.invariant-loop-i
-invariant-loop-i g l = ApplyTo (take l.i l.ops) (g.O.ObjectSource.objects l.objects)
