@@ -7,13 +7,13 @@
 ghost use Rattle.std.specs.Prelude.{IfOk};
 ghost use Rattle.benchmarks.specs.Measured.{HasTimes};
 
-use base::PoolError;
+use base::{DEFAULT_CACHE_BLOCKS, PoolError};
 use benchmarks::{BenchError, CountedDevice, FlushCounter, Measured, measure};
 use command_arguments::BenchArguments;
 use device_model::SectorDevice;
 use file_devices::{Access, FileDevice, FileRefusal, HeldFile, SectorFile};
 use import_replay::create;
-use pool_threads::Pool;
+use pool_threads::{Limits, Pool};
 use read_commands::{Failure, NotesRefusals};
 use std::alloc::Global;
 use std::fs::{self, File, OpenFile};
@@ -127,12 +127,12 @@ fn make_pool<D: SectorDevice + NotesRefusals + Drop>(
         Ok(device) => device,
         Err((refusal, device)) => return Err(Failure::of_pool(refusal, &device)),
     };
-    match Pool::open(
-        alloc,
-        CountedDevice::new(device, counter),
+    let counted = CountedDevice::new(device, counter);
+    let limits = Limits {
         dirty_max,
-        MOMENT,
-    ) {
+        cache_blocks: DEFAULT_CACHE_BLOCKS,
+    };
+    match Pool::open(alloc, counted, limits, MOMENT) {
         Ok(pool) => Ok(pool),
         Err((refusal, device)) => Err(Failure::of_pool(refusal, &device.into_device())),
     }

@@ -9,7 +9,7 @@ ghost use Rattle.pool_threads.specs.Handles.{IsFirstSeen, IsLeftByOpen, LeavesSa
 
 use base::{DEFAULT_CACHE_BLOCKS, PoolError};
 use device_model::SectorDevice;
-use import_replay::import_with;
+use import_replay::{Limits, import};
 use pool_threads::{LastSeen, OwnedPool};
 use std::alloc::Global;
 use std::snapshot::Snapshot;
@@ -39,7 +39,11 @@ pub fn open_alone<D: SectorDevice>(
         → IfErr result (λ e. LeavesSame (D.disk device) (D.disk e.1)) }
 {
     let before = Snapshot::of(&device);
-    let imported = match import_with(alloc, device, dirty_max, DEFAULT_CACHE_BLOCKS, moment) {
+    let limits = Limits {
+        dirty_max,
+        cache_blocks: DEFAULT_CACHE_BLOCKS,
+    };
+    let imported = match import(alloc, device, limits, moment) {
         Ok(imported) => imported,
         Err(refused) => return Err(refused),
     };

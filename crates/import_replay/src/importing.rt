@@ -50,11 +50,12 @@ ghost use Rattle.import_replay.specs.RunStarts.{StartsRun};
 use crate::finding::Found;
 use crate::imported::Imported;
 use crate::label_sync::sync_group;
+use crate::limits::Limits;
 use crate::next_pool::{NextPool, plan_pool, replay_pool};
 use crate::reading::read_pool;
 use base::{
-    DEFAULT_CACHE_BLOCKS, GREATEST_CACHE_BLOCKS, GREATEST_DIRTY_MAX, Group, LAST_NUMBER,
-    LEAST_DIRTY_MAX, PoolError, WRITTEN_VERSION,
+    GREATEST_CACHE_BLOCKS, GREATEST_DIRTY_MAX, Group, LAST_NUMBER, LEAST_DIRTY_MAX, PoolError,
+    WRITTEN_VERSION,
 };
 use block_cache::{BlockCache, CachedDevice};
 use device_model::SectorDevice;
@@ -65,37 +66,8 @@ use std::alloc::Global;
 use std::num::NonZeroUsize;
 use uberblocks::Uberblock;
 
-/// Imports the pool on a device, which then keeps at most 256 tree blocks in memory that were read. See `import_with`.
-pub fn import<D: SectorDevice>(
-    alloc: Global,
-    device: D,
-    dirty_max: u64,
-    moment: u64,
-) -> Result<Imported<D>, (PoolError, D)>
-    ensures imported { IsTrue D.keeps_model
-        → IfOk result (λ i. IsImport (bytes_of (D.disk device).now) (bytes_of (D.disk i.device).now)
-        dirty_max i.mounted) }
-    ensures written { IsTrue D.keeps_model
-        → IfOk result (λ i. IsImportWritten (D.disk device) (D.disk i.device) moment i.mounted) }
-    ensures own { IsTrue D.keeps_model → MatchResult result
-        (λ i. KeepsOwn (D.disk device) (D.disk i.device))
-        (λ e. KeepsOwn (D.disk device) (D.disk e.1)) }
-    ensures starts { IsTrue D.keeps_model
-        → IfOk result (λ i. StartsRun (D.disk device) dirty_max (D.disk i.device) i.mounted) }
-    ensures mounted { IfOk result (λ i. IsMountedAnew (D.size device) dirty_max i.mounted) }
-    ensures size { MatchResult result
-        (λ i. D.size i.device ≡ D.size device) (λ e. D.size e.1 ≡ D.size device) }
-    ensures count { MatchResult result (λ i. D.refused i.device ≡ D.refused device)
-        (λ e. D.refused e.1 ≡ with_refusal e.0 (D.refused device)) }
-    ensures refused { IfErr result (λ e. IsImportRefused D.SectorDevice
-        (numbers.is_dirty_max_allowed dirty_max) moment device e.1 e.0) }
-    ensures cache { IfOk result (λ i. i.cache.cap ≡ 256) }
-{
-    import_with(alloc, device, dirty_max, DEFAULT_CACHE_BLOCKS, moment)
-}
-
-/// Imports the pool on a device. At most `dirty_max` bytes may be dirty then, at most `cache_blocks` tree blocks that
-/// were read stay in memory, and `moment`, in seconds, is stored in the uberblocks.
+/// Imports the pool on a device, with these limits of what it may hold in memory. `moment`, in seconds, is stored in the
+/// uberblocks.
 ///
 /// It flushes the device, loads the tree of the active uberblock, of group u and import number i, and replays the log
 /// records of groups above u. It reads again the top of each object that they change, and the indirect blocks that the
@@ -108,25 +80,23 @@ pub fn import<D: SectorDevice>(
 ///
 /// # Errors
 /// In this order:
-/// - `BadGeometry`, and `BadRange` if the limit is not 4,096 to 2^40 bytes, or the number of blocks not 1 to 4,096. The
-///   device is as it was.
+/// - `BadGeometry`, and `BadRange` if a limit is out of its bounds. The device is as it was.
 /// - `NoPool`; `Damaged` with the first damage of the tree, or with kind 6 and the address of the first block of the
 ///   first log record that can't take place; `TooMany` if u + 5 or i + 1 would pass 2^60; `NoSpace` if the blocks of
 ///   the records and the first log block find no room. `NoMemory` and `Read` when they happen. A device that gives a
 ///   block otherwise when it is read again is refused `Damaged` as well. The device is flushed and else as it was.
 /// - `Write` and `Flush`, if the device refused such a call. The calls before it are made.
-pub fn import_with<D: SectorDevice>(
+pub fn import<D: SectorDevice>(
     alloc: Global,
     device: D,
-    dirty_max: u64,
-    cache_blocks: u64,
+    limits: Limits,
     moment: u64,
 ) -> Result<Imported<D>, (PoolError, D)>
     // It is the pool that the image mounts, with the records of its chain replayed. The device holds its tree, and the
     // blocks of the old tree and of the chain stay.
     ensures imported { IsTrue D.keeps_model
         → IfOk result (λ i. IsImport (bytes_of (D.disk device).now) (bytes_of (D.disk i.device).now)
-        dirty_max i.mounted) }
+        limits.dirty_max i.mounted) }
     // It makes just its calls, in their order. Its blocks are the lowest that neither the old tree nor the chain has,
     // one for each place that the records write. Then each label has its config and its uberblock, this is the active
     // one, and nothing is unflushed.
@@ -140,30 +110,30 @@ pub fn import_with<D: SectorDevice>(
         (λ i. KeepsOwn (D.disk device) (D.disk i.device))
         (λ e. KeepsOwn (D.disk device) (D.disk e.1)) }
     ensures starts { IsTrue D.keeps_model
-        → IfOk result (λ i. StartsRun (D.disk device) dirty_max (D.disk i.device) i.mounted) }
+        → IfOk result (λ i. StartsRun (D.disk device) limits.dirty_max (D.disk i.device) i.mounted) }
 
     // On each device: what is shown is exact, the size stays, and each call that the device refused is reported.
-    ensures mounted { IfOk result (λ i. IsMountedAnew (D.size device) dirty_max i.mounted) }
+    ensures mounted { IfOk result (λ i. IsMountedAnew (D.size device) limits.dirty_max i.mounted) }
     ensures size { MatchResult result
         (λ i. D.size i.device ≡ D.size device) (λ e. D.size e.1 ≡ D.size device) }
     ensures count { MatchResult result (λ i. D.refused i.device ≡ D.refused device)
         (λ e. D.refused e.1 ≡ with_refusal e.0 (D.refused device)) }
     ensures refused { IfErr result (λ e. IsImportRefused D.SectorDevice
-        (numbers.are_limits_allowed dirty_max cache_blocks) moment device e.1 e.0) }
-    ensures cache { IfOk result (λ i. (numbers.is_cache_allowed cache_blocks ≡ true)
-        × (i.cache.cap ≡ cache_blocks)) }
+        (numbers.are_limits_allowed limits.dirty_max limits.cache_blocks) moment device e.1 e.0) }
+    ensures cache { IfOk result (λ i. (numbers.is_cache_allowed limits.cache_blocks ≡ true)
+        × (i.cache.cap ≡ limits.cache_blocks)) }
 {
-    let geometry = match allowed_size(device.sectors(), dirty_max, cache_blocks) {
+    let geometry = match allowed_size(device.sectors(), limits) {
         Ok(geometry) => geometry,
         Err(error) => return Err((error, device)),
     };
-    let mut cached = CachedDevice::new(device, empty_cache(alloc, cache_blocks));
-    match mount_pool(alloc, &mut cached, geometry, dirty_max, moment) {
+    let mut cached = CachedDevice::new(device, empty_cache(alloc, limits.cache_blocks));
+    match mount_pool(alloc, &mut cached, geometry, limits.dirty_max, moment) {
         Ok(mounted) => {
             let (device, _) = cached.into_parts();
             Ok(Imported {
                 device,
-                cache: empty_cache(alloc, cache_blocks),
+                cache: empty_cache(alloc, limits.cache_blocks),
                 mounted,
             })
         }
@@ -187,24 +157,28 @@ fn empty_cache(alloc: Global, count: u64) -> BlockCache
 }
 
 // The size of a device of so many sectors, if an import with these limits may begin.
-fn allowed_size(sectors: u64, dirty_max: u64, cache_blocks: u64) -> Result<Geometry, PoolError>
+fn allowed_size(sectors: u64, limits: Limits) -> Result<Geometry, PoolError>
     ensures size { IfOk result (λ size. size ≡ sector_size * sectors) }
     ensures geometry { IfOk result IsGeometry }
-    ensures limits { IfOk result (λ _. numbers.are_limits_allowed dirty_max cache_blocks ≡ true) }
+    ensures limits { IfOk result (λ _. numbers.are_limits_allowed limits.dirty_max limits.cache_blocks ≡ true) }
     ensures refused { IfErr result (IsBoundsRefusal (sector_size * sectors)
-        (numbers.are_limits_allowed dirty_max cache_blocks)) }
+        (numbers.are_limits_allowed limits.dirty_max limits.cache_blocks)) }
 {
     let geometry = Geometry::of(sectors)?;
-    if !are_limits_allowed(dirty_max, cache_blocks) {
+    if !are_limits_allowed(limits) {
         return Err(PoolError::BadRange);
     }
     Ok(geometry)
 }
 
 // Returns whether an import accepts these limits.
-fn are_limits_allowed(dirty_max: u64, cache_blocks: u64) -> bool
-    ensures { result ≡ numbers.are_limits_allowed dirty_max cache_blocks }
+fn are_limits_allowed(limits: Limits) -> bool
+    ensures { result ≡ numbers.are_limits_allowed limits.dirty_max limits.cache_blocks }
 {
+    let Limits {
+        dirty_max,
+        cache_blocks,
+    } = limits;
     let is_cache_allowed = 1 <= cache_blocks && cache_blocks <= GREATEST_CACHE_BLOCKS;
     is_cache_allowed && LEAST_DIRTY_MAX <= dirty_max && dirty_max <= GREATEST_DIRTY_MAX
 }

@@ -10,6 +10,7 @@ mod free_blocks;
 mod imported;
 mod importing;
 mod label_sync;
+mod limits;
 mod next_pool;
 mod reading;
 
@@ -17,6 +18,7 @@ pub use creation::create;
 pub use finding::{Found, find_pool};
 pub use free_blocks::take_logged;
 pub use imported::Imported;
-pub use importing::{import, import_with};
+pub use importing::import;
+pub use limits::Limits;
 pub use next_pool::{ReplayedPool, replay_pool};
 pub use reading::{frame_of, read_chain, read_pool};

@@ -7,8 +7,14 @@ ghost use Rattle.base.specs.kept.LeftDisks.{IsLeft};
 
 use base::PoolError;
 use device_model::SectorDevice;
-use import_replay::{Imported, create, import};
+use import_replay::{Imported, Limits, create, import};
 use std::alloc::Global;
+
+// A dirty limit of 1 MiB, and 256 blocks.
+const LIMITS: Limits = Limits {
+    dirty_max: 1_048_576,
+    cache_blocks: 256,
+};
 
 // A pool that was just made is found and imported by its name, as group 8 and import 1.
 fn a_new_pool_is_imported<D: SectorDevice>(
@@ -21,7 +27,7 @@ fn a_new_pool_is_imported<D: SectorDevice>(
     ensures found { IsTrue D.keeps_model → IfErr result (λ e. e.0 ≢ PoolError.NoPool) }
 {
     match create(device, b"tank", 77, 0) {
-        Ok(device) => import(alloc, device, 1_048_576, 0),
+        Ok(device) => import(alloc, device, LIMITS, 0),
         Err(refused) => Err(refused),
     }
 }

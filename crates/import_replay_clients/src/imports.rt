@@ -9,8 +9,14 @@ ghost use Rattle.base.specs.tree.Places.{IsInTree};
 
 use base::{Group, PoolError};
 use device_model::SectorDevice;
-use import_replay::{Imported, import, import_with};
+use import_replay::{Imported, Limits, import};
 use std::alloc::Global;
+
+// A dirty limit of 1 MiB, and 256 blocks.
+const LIMITS: Limits = Limits {
+    dirty_max: 1_048_576,
+    cache_blocks: 256,
+};
 
 // If group 9 and import 3 are active, an import makes an uberblock of group 13 and import 4 the active one.
 fn the_next_uberblock_is_active<D: SectorDevice>(
@@ -22,7 +28,7 @@ fn the_next_uberblock_is_active<D: SectorDevice>(
         → (v : image.Uberblock) × IsActive (bytes_of (D.disk i.device).now) v
         × (v.group ≡ 13) × (v.import_number ≡ 4)) }
 {
-    import(alloc, device, 1_048_576, 0)
+    import(alloc, device, LIMITS, 0)
 }
 
 // The moment that an import is told is that of the active uberblock then.
@@ -33,7 +39,7 @@ fn an_import_stores_its_moment<D: SectorDevice>(
     ensures { IsTrue D.keeps_model → IfOk result (λ i. (v : image.Uberblock)
         × IsActive (bytes_of (D.disk i.device).now) v × (v.moment ≡ 1234)) }
 {
-    import(alloc, device, 1_048_576, 1_234)
+    import(alloc, device, LIMITS, 1_234)
 }
 
 // If group 2^60 - 4 is active, no import of the pool succeeds: its open group would pass the last number.
@@ -44,7 +50,7 @@ fn no_import_passes_the_last_group<D: SectorDevice>(
     ensures { IsTrue D.keeps_model → IfOk result (λ i. (u : image.Uberblock)
         → IsActive (bytes_of (D.disk device).now) u → u.group ≡ 1152921504606846972 → ⊥) }
 {
-    import(alloc, device, 1_048_576, 0)
+    import(alloc, device, LIMITS, 0)
 }
 
 // No block of the tree is free after an import.
@@ -56,7 +62,7 @@ fn no_block_of_the_tree_is_free<D: SectorDevice>(
         → set.contains i.mounted.free.free address ≡ true
         → IsInTree (bytes_of (D.disk i.device).now) i.mounted.tree.root address → ⊥) }
 {
-    import(alloc, device, 1_048_576, 0)
+    import(alloc, device, LIMITS, 0)
 }
 
 // An import that is refused for memory has written nothing: a disk with nothing unflushed stays as it was.
@@ -67,7 +73,7 @@ fn memory_lacks_before_the_first_write<D: SectorDevice>(
     ensures { IsTrue D.keeps_model → IfErr result (λ e. e.0 ≡ PoolError.NoMemory
         → (D.disk device).now.unflushed ≡ [] → D.disk e.1 ≡ D.disk device) }
 {
-    import(alloc, device, 1_048_576, 0)
+    import(alloc, device, LIMITS, 0)
 }
 
 // A limit of 4,095 dirty bytes is refused, and the device comes back as it was.
@@ -78,7 +84,7 @@ fn a_limit_below_a_block_leaves_the_device<D: SectorDevice>(
     ensures refused { IsErr result }
     ensures unchanged { IfErr result (λ e. e.1 ≡ device) }
 {
-    import(alloc, device, 4_095, 0)
+    import(alloc, device, Limits { dirty_max: 4_095, ..LIMITS }, 0)
 }
 
 // A cache of no blocks is refused, and the device comes back as it was.
@@ -89,7 +95,7 @@ fn a_cache_of_no_blocks_leaves_the_device<D: SectorDevice>(
     ensures refused { IsErr result }
     ensures unchanged { IfErr result (λ e. e.1 ≡ device) }
 {
-    import_with(alloc, device, 1_048_576, 0, 0)
+    import(alloc, device, Limits { cache_blocks: 0, ..LIMITS }, 0)
 }
 
 // An import with a cache of two blocks has one, and none is in it.
@@ -100,7 +106,7 @@ fn a_cache_has_its_size<D: SectorDevice>(
     ensures size { IfOk result (λ i. i.cache.cap ≡ 2) }
     ensures empty { IfOk result (λ i. i.cache.entries ≡ []) }
 {
-    import_with(alloc, device, 1_048_576, 2, 0)
+    import(alloc, device, Limits { cache_blocks: 2, ..LIMITS }, 0)
 }
 
 // An import that is told no number of cache blocks lets 256 stay in memory.
@@ -110,7 +116,7 @@ fn an_import_lets_256_blocks_stay<D: SectorDevice>(
 ) -> Result<Imported<D>, (PoolError, D)>
     ensures { IfOk result (λ i. i.cache.cap ≡ 256) }
 {
-    import(alloc, device, 1_048_576, 0)
+    import(alloc, device, LIMITS, 0)
 }
 
 // If an import synced group 9 and replayed 3 records, `group` returns 9 and `records` returns 3.

@@ -16,8 +16,14 @@ ghost use Rattle.import_replay_clients.specs.ChangedBlocks.{ChangesBlock, KeepsB
 
 use base::PoolError;
 use device_model::SectorDevice;
-use import_replay::{Imported, import};
+use import_replay::{Imported, Limits, import};
 use std::alloc::Global;
+
+// A dirty limit of 1 MiB, and 256 blocks.
+const LIMITS: Limits = Limits {
+    dirty_max: 1_048_576,
+    cache_blocks: 256,
+};
 
 // If no record of the chain is above the active group, and a block is neither in the tree nor in the chain, an import
 // has room.
@@ -32,7 +38,7 @@ fn one_spare_block_is_room_without_records<D: SectorDevice>(
         → (IsUsed (bytes_of (D.disk device).now) u.root chain address → ⊥)
         → e.0 ≢ PoolError.NoSpace) }
 {
-    import(alloc, device, 1_048_576, 0)
+    import(alloc, device, LIMITS, 0)
 }
 
 // An import replays each record of the chain that is above the active group. What it gives has the contents that the
@@ -47,7 +53,7 @@ fn the_records_of_a_chain_are_replayed<D: SectorDevice>(
         → (contents_of i.mounted.contents ≡ contents)
         × (i.mounted.records ≡ length (records_above u.group chain))) }
 {
-    import(alloc, device, 1_048_576, 0)
+    import(alloc, device, LIMITS, 0)
 }
 
 // If no record of the chain is above the active group, an import writes no block: each block stays as it was.
@@ -61,7 +67,7 @@ fn an_import_without_records_writes_no_block<D: SectorDevice>(
         → (k : ℕ) → k < block_count i.mounted.geometry
         → KeepsBlock (D.disk device) (D.disk i.device) k) }
 {
-    import(alloc, device, 1_048_576, 0)
+    import(alloc, device, LIMITS, 0)
 }
 
 // An import takes the lowest blocks. If it changed block k, the new tree has that block, and each lower one that
@@ -82,7 +88,7 @@ fn an_import_leaves_out_no_lower_block<D: SectorDevice>(
         → (IsUsed (bytes_of (D.disk device).now) u.root chain (block_address j) → ⊥)
         → IsInTree (bytes_of (D.disk i.device).now) i.mounted.tree.root (block_address j)) }
 {
-    import(alloc, device, 1_048_576, 0)
+    import(alloc, device, LIMITS, 0)
 }
 
 // The new root lies above all other blocks that an import changed.
@@ -96,7 +102,7 @@ fn the_new_root_is_the_highest_block<D: SectorDevice>(
         → ChangesBlock (D.disk device) (D.disk i.device) k
         → ChangesBlock (D.disk device) (D.disk i.device) root → k ≤ root) }
 {
-    import(alloc, device, 1_048_576, 0)
+    import(alloc, device, LIMITS, 0)
 }
 
 // If no record of the chain is on object 7, an import doesn't write it: the blocks of its record 2 and of the pointers
@@ -122,5 +128,5 @@ fn an_object_without_records_is_not_written<D: SectorDevice>(
         ≡ block_address k
         → KeepsBlock (D.disk device) (D.disk i.device) k) }
 {
-    import(alloc, device, 1_048_576, 0)
+    import(alloc, device, LIMITS, 0)
 }

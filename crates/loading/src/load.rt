@@ -12,7 +12,7 @@ use command_arguments::{LoadArguments, Order, STREAMS, Verbosity};
 use device_model::SectorDevice;
 use file_devices::FileRefusal;
 use loads::{Gate, Loaded, WRITES_BETWEEN_WAITS, load};
-use pool_threads::Pool;
+use pool_threads::{Limits, Pool};
 use read_commands::{BadNumber, Failure, NotesRefusals, report_failure};
 use script_lines::Answer;
 use std::alloc::Global;
@@ -82,12 +82,15 @@ fn load_pool<
         return Err(Failure::Refused(PoolError::BadRange));
     }
     let alloc = rt.alloc();
-    let (dirty_max, cache_blocks) = (arguments.dirty_max, arguments.cache_blocks);
-    let opened = Pool::open_with(alloc, device, dirty_max, cache_blocks, arguments.moment);
+    let limits = Limits {
+        dirty_max: arguments.dirty_max,
+        cache_blocks: arguments.cache_blocks,
+    };
+    let opened = Pool::open(alloc, device, limits, arguments.moment);
     let pool = match opened {
         Ok(pool) => pool,
         Err((refusal, device)) => {
-            let number = BadNumber::of_limits(dirty_max, cache_blocks);
+            let number = BadNumber::of_limits(limits.dirty_max, limits.cache_blocks);
             return Err(Failure::of_pool(refusal, &device).for_number(number));
         }
     };

@@ -7,12 +7,12 @@ ghost use Rattle.named_changes.specs.TableReads.{ReadsTable};
 ghost use Rattle.pool_threads.specs.Handles.{OpensBehind, opening_view, shared_of};
 
 use crate::steps::NameRefusal;
-use base::{DEFAULT_DIRTY_MAX, ObjectId, PoolError};
+use base::{ObjectId, PoolError};
 use commands::OWNER;
 use device_model::SectorDevice;
 use named_reads::{NameFailure, TABLE_RANGE, table_of};
 use object_names::NameTable;
-use pool_threads::{Handle, Pool};
+use pool_threads::{Handle, Limits, Pool};
 use read_commands::{Failure, NotesRefusals};
 use std::alloc::Global;
 use std::sync::Wait;
@@ -30,7 +30,7 @@ pub(crate) fn open_pool<D: SectorDevice + NotesRefusals + Drop>(
         default_dirty_max (opening_view (shared_of p))) }
     ensures failed { IfErr result (FailsToOpen D.SectorDevice device moment) }
 {
-    match Pool::open(alloc, device, DEFAULT_DIRTY_MAX, moment) {
+    match Pool::open(alloc, device, Limits::DEFAULT, moment) {
         Ok(pool) => Ok(pool),
         Err((refusal, device)) => Err(Failure::of_pool(refusal, &device)),
     }

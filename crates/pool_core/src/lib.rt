@@ -13,9 +13,9 @@
 //! ```
 //! #![tactic(auto)]
 //!
-//! use base::{DEFAULT_DIRTY_MAX, Group, Mode, ObjectId, Op, Ops, Owner, Plan, PoolError, Range};
+//! use base::{Group, Mode, ObjectId, Op, Ops, Owner, Plan, PoolError, Range};
 //! use device_model::MemDevice;
-//! use import_replay::{create, import};
+//! use import_replay::{Limits, create, import};
 //! use pool_core::PoolState;
 //! use std::alloc::Global;
 //!
@@ -26,7 +26,7 @@
 //!
 //! fn make_object(alloc: Global, owner: Owner, object: ObjectId) -> Result<Group, PoolError> {
 //!     let device = create(MemDevice::new(alloc, 16_384)?, b"tank", 77, 0)?;
-//!     let mut pool = PoolState::new(import(alloc, device, DEFAULT_DIRTY_MAX, 0)?);
+//!     let mut pool = PoolState::new(import(alloc, device, Limits::DEFAULT, 0)?);
 //!     let lock = pool.lock(owner, object, Range::WHOLE, Mode::Writer)?;
 //!     let ops = Ops::new(vec![in alloc; Op::Create(object)]?);
 //!     let (tx, _) = pool.begin(owner, &Plan::of(alloc, &ops)?)?;

@@ -21,15 +21,15 @@
 //! ```
 //! #![tactic(auto)]
 //!
-//! use base::{DEFAULT_DIRTY_MAX, ObjectId, Op, Ops, Owner, PoolError};
+//! use base::{ObjectId, Op, Ops, Owner, PoolError};
 //! use device_model::MemDevice;
 //! use import_replay::create;
-//! use pool_threads::Pool;
+//! use pool_threads::{Limits, Pool};
 //!
 //! fn main(rt: HostRuntime) -> anyhow::Result<()> {
 //!     let device = create(MemDevice::new(rt.alloc(), 16_384)?, b"tank", 77, 0);
 //!     let device = device.map_err(PoolError::from)?;
-//!     let pool = Pool::open(rt.alloc(), device, DEFAULT_DIRTY_MAX, 0).map_err(PoolError::from)?;
+//!     let pool = Pool::open(rt.alloc(), device, Limits::DEFAULT, 0).map_err(PoolError::from)?;
 //!     let mut handle = pool.handle();
 //!     let ops = Ops::new(vec![in rt.alloc(); Op::Create(ObjectId(1))]?);
 //!     let receipt = handle.transact(&rt, Owner(1), ops)?;
@@ -65,6 +65,7 @@ mod turn;
 mod waits;
 
 pub use handle::Handle;
+pub use import_replay::Limits;
 pub use long_writes::PIECE_SIZE;
 pub use opened::Opened;
 pub use pool::Pool;

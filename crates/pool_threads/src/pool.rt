@@ -6,9 +6,9 @@ use crate::handle::{Handle, LastSeen};
 use crate::opened::Opened;
 use crate::rule::{PoolRule, PoolView};
 use crate::shared::{Shared, boxed};
-use base::{DEFAULT_CACHE_BLOCKS, Group, PoolError, Told};
+use base::{Group, PoolError, Told};
 use device_model::SectorDevice;
-use import_replay::{Imported, import_with};
+use import_replay::{Imported, Limits, import};
 use pool_core::PoolState;
 use std::alloc::Global;
 use std::snapshot::Snapshot;
@@ -27,7 +27,7 @@ pub struct Pool<D: SectorDevice> {
 
 impl<D: SectorDevice> Pool<D> {
     ghost use Rattle.std.specs.Prelude.{◌≡◌, ◌⊎◌, IfErr, IfOk, IfSome, IsSome, IsTrue};
-    ghost use Rattle.base.specs.kept.Imports.{are_limits_allowed, is_dirty_max_allowed};
+    ghost use Rattle.base.specs.kept.Imports.{are_limits_allowed};
     ghost use Rattle.base.specs.disk.Calls.{with_refusal};
     ghost use Rattle.import_replay.specs.ImportRefusals.{IsImportRefusal};
     ghost use Rattle.mounted.specs.ShownMounted.{shown_of_import};
@@ -36,66 +36,34 @@ impl<D: SectorDevice> Pool<D> {
     ghost use Rattle.pool_threads.specs.Handles.{HasCacheOf, IsLastState, IsLaterState, IsLeftByOpen, IsNewHandle, IsReadyToOpen, LeavesSame, OpensBehind, ShowsImport, ShowsMounted, StartsBehind, WasOf, kin_left, moment_in, opened_in, opened_of, opening_view, shared_of};
     ghost use Rattle.pool_threads.specs.Views.{Explains, SeenPool};
 
-    /// Opens the pool on a device, as often as one likes: this is the way in for a program. It keeps at most 256 tree
-    /// blocks that were read in memory, and as many that syncs wrote: 2.1 MB. See `open_with`.
-    pub fn open(
-        alloc: Global,
-        device: D,
-        dirty_max: u64,
-        moment: u64,
-    ) -> Result<Pool<D>, (PoolError, D)>
-        ensures opened { IfOk result (λ p. OpensBehind (IsTrue D.keeps_model) (D.disk device)
-            dirty_max (opening_view (shared_of p))) }
-        ensures imported { IsTrue D.keeps_model → IfOk result
-            (λ p. ShowsImport moment (D.disk device) (opened_in p)
-            (opening_view (shared_of p))) }
-        ensures moment { IfOk result (λ p. moment_in (shared_of p) ≡ moment) }
-        ensures cache { IfOk result (λ p. HasCacheOf 256 (opening_view (shared_of p))) }
-        ensures refused { IfErr result (λ e. IsImportRefusal (D.size device)
-            (is_dirty_max_allowed dirty_max) e.0) }
-        ensures counted { IfErr result
-            (λ e. D.refused e.1 ≡ with_refusal e.0 (D.refused device)) }
-        ensures untouched { IfErr result
-            (λ e. (e.0 ≡ PoolError.BadGeometry) ⊎ (e.0 ≡ PoolError.BadRange) → e.1 ≡ device) }
-        ensures given_back { IsTrue D.keeps_model
-            → IfErr result (λ e. IsLeftByOpen moment (D.disk device) e.0 (D.disk e.1)) }
-        ensures still_left { IsTrue D.keeps_model
-            → IfErr result (λ e. LeavesSame (D.disk device) (D.disk e.1)) }
-    {
-        Pool::open_with(alloc, device, dirty_max, DEFAULT_CACHE_BLOCKS, moment)
-    }
-
-    /// Opens the pool on a device, with a limit of the tree blocks that stay in memory once they were read. The pool
-    /// takes the device.
+    /// Opens the pool on a device, as often as one likes: this is the way in for a program. The pool takes the device,
+    /// and holds no more in memory than the limits say.
     ///
-    /// The dirty limit is the most bytes that unsynced transactions may be charged, as `DEFAULT_DIRTY_MAX` of `base`;
-    /// `PoolState::begin` says what is charged. At most `cache_blocks` blocks of 4,096 bytes stay in memory once they
-    /// were read, 1 to 4,096, and as many that syncs wrote. The moment is a time in seconds, or 0 if no clock is
-    /// read. It is stored in the uberblocks of this import, and in those of the syncs that handles start.
+    /// The moment is a time in seconds, or 0 if no clock is read. It is stored in the uberblocks of this import, and in
+    /// those of the syncs that handles start.
     ///
     /// For proofs: if the device keeps the model, the contents are what the run left that its disk holds, whichever
     /// that was, and the crash rule is followed from there on.
     ///
     /// # Errors
-    /// Those of `import_with`, and `NoMemory` if there is none for the lock. The device comes back, as the import left
+    /// Those of `import`, and `NoMemory` if there is none for the lock. The device comes back, as the import left
     /// it. In a function that returns a `PoolError`, `?` drops the device. With `anyhow`, write
     /// `.map_err(PoolError::from)?`.
-    pub fn open_with(
+    pub fn open(
         alloc: Global,
         device: D,
-        dirty_max: u64,
-        cache_blocks: u64,
+        limits: Limits,
         moment: u64,
     ) -> Result<Pool<D>, (PoolError, D)>
         ensures opened { IfOk result (λ p. OpensBehind (IsTrue D.keeps_model) (D.disk device)
-            dirty_max (opening_view (shared_of p))) }
+            limits.dirty_max (opening_view (shared_of p))) }
         ensures imported { IsTrue D.keeps_model → IfOk result
             (λ p. ShowsImport moment (D.disk device) (opened_in p)
             (opening_view (shared_of p))) }
         ensures moment { IfOk result (λ p. moment_in (shared_of p) ≡ moment) }
-        ensures cache { IfOk result (λ p. HasCacheOf cache_blocks (opening_view (shared_of p))) }
+        ensures cache { IfOk result (λ p. HasCacheOf limits.cache_blocks (opening_view (shared_of p))) }
         ensures refused { IfErr result (λ e. IsImportRefusal (D.size device)
-            (are_limits_allowed dirty_max cache_blocks) e.0) }
+            (are_limits_allowed limits.dirty_max limits.cache_blocks) e.0) }
         ensures counted { IfErr result
             (λ e. D.refused e.1 ≡ with_refusal e.0 (D.refused device)) }
         ensures untouched { IfErr result
@@ -106,7 +74,7 @@ impl<D: SectorDevice> Pool<D> {
             → IfErr result (λ e. LeavesSame (D.disk device) (D.disk e.1)) }
     {
         let before = Snapshot::of(&device);
-        let imported = match import_with(alloc, device, dirty_max, cache_blocks, moment) {
+        let imported = match import(alloc, device, limits, moment) {
             Ok(imported) => imported,
             Err(refused) => return Err(refused),
         };

@@ -10,11 +10,17 @@ ghost use Rattle.word_lock.specs.Turns.{turn};
 
 use base::{Ops, Owner, PoolError, Receipt, TxId};
 use device_model::SectorDevice;
-use import_replay::create;
+use import_replay::{Limits, create};
 use pool_core::PoolState;
 use pool_threads::{Handle, Pool};
 use std::alloc::Global;
 use std::sync::Wait;
+
+// A dirty limit of 1 MiB, and 256 blocks.
+const LIMITS: Limits = Limits {
+    dirty_max: 1_048_576,
+    cache_blocks: 256,
+};
 
 // Of every moment of the commit's step, on the disk of the device under the lock.
 fn a_crash_within_a_commit_leaves_a_cut<D: SectorDevice, W: Wait>(
@@ -63,7 +69,7 @@ where
     let Ok(made) = create(device, b"tank", 77, 0) else {
         return None;
     };
-    let Ok(pool) = Pool::open(alloc, made, 1_048_576, 0) else {
+    let Ok(pool) = Pool::open(alloc, made, LIMITS, 0) else {
         return None;
     };
     let _ = pool.handle().transact(rt, Owner(1), ops);

@@ -20,11 +20,17 @@ ghost use Rattle.pool_threads.specs.Views.CrashRule.{Behind};
 
 use base::{Group, PoolError};
 use device_model::SectorDevice;
-use import_replay::{Imported, create};
+use import_replay::{Imported, Limits, create};
 use pool_core::PoolState;
 use pool_threads::{Handle, LastSeen, Opened, OwnedPool, Pool};
 use std::alloc::Global;
 use std::snapshot::Snapshot;
+
+// A dirty limit of 1 MiB, and 256 blocks.
+const LIMITS: Limits = Limits {
+    dirty_max: 1_048_576,
+    cache_blocks: 256,
+};
 
 // Its state is explained by a view that goes on from what the handle had seen as it left.
 fn a_pool_closes_behind_what_its_handle_saw<D: SectorDevice>(
@@ -63,7 +69,7 @@ where
     D: Drop,
     ensures { IfSome result (λ d. D.refused d ≡ D.refused device) }
 {
-    match Pool::open(alloc, device, 1_048_576, 0) {
+    match Pool::open(alloc, device, LIMITS, 0) {
         Err((PoolError::NoMemory, device)) => Some(device),
         _ => None,
     }
@@ -79,7 +85,7 @@ where
     ensures { IsTrue D.keeps_model → IfSome result (λ p. (m : Mounted)
         × IsImportSynced (D.disk device) (opening_view (shared_of p)).disk 7 m) }
 {
-    match Pool::open(alloc, device, 1_048_576, 7) {
+    match Pool::open(alloc, device, LIMITS, 7) {
         Ok(pool) => Some(pool),
         Err(_) => None,
     }
@@ -91,7 +97,7 @@ where
     D: Drop,
     ensures { IfSome result (λ p. (opening_view (shared_of p)).cache_room ≡ 2) }
 {
-    match Pool::open_with(alloc, device, 1_048_576, 2, 7) {
+    match Pool::open(alloc, device, Limits { cache_blocks: 2, ..LIMITS }, 7) {
         Ok(pool) => Some(pool),
         Err(_) => None,
     }
@@ -102,7 +108,7 @@ where
     D: Drop,
     ensures { IfSome result (λ p. (opening_view (shared_of p)).cache_room ≡ 256) }
 {
-    match Pool::open(alloc, device, 1_048_576, 7) {
+    match Pool::open(alloc, device, LIMITS, 7) {
         Ok(pool) => Some(pool),
         Err(_) => None,
     }
@@ -114,7 +120,7 @@ where
     ensures { IfSome result (λ p. OpensBehind (IsTrue D.keeps_model) (D.disk device) 1048576
         (opening_view (shared_of p))) }
 {
-    match Pool::open(alloc, device, 1_048_576, 7) {
+    match Pool::open(alloc, device, LIMITS, 7) {
         Ok(pool) => Some(pool),
         Err(_) => None,
     }
@@ -134,7 +140,7 @@ where
     let Ok(made) = create(device, b"tank", 77, 0) else {
         return None;
     };
-    match Pool::open(alloc, made, 1_048_576, 0) {
+    match Pool::open(alloc, made, LIMITS, 0) {
         Ok(pool) => Some(pool),
         Err(_) => None,
     }
@@ -259,7 +265,7 @@ where
         × IsChainOf (bytes_of (D.disk device).now) u chain
         × (length (records_above u.group chain) ≡ records)) }
 {
-    match Pool::open(alloc, device, 1_048_576, 0) {
+    match Pool::open(alloc, device, LIMITS, 0) {
         Ok(pool) => Some(pool.opened().records),
         Err(_) => None,
     }
@@ -273,7 +279,7 @@ where
         × IsActive (bytes_of (D.disk device).now) u × (opened.guid ≡ u.guid)
         × (opened.group.0 ≡ u.group + 4) × (opened.import_number ≡ u.import_number + 1)) }
 {
-    match Pool::open(alloc, device, 1_048_576, 0) {
+    match Pool::open(alloc, device, LIMITS, 0) {
         Ok(pool) => Some(pool.opened()),
         Err(_) => None,
     }

@@ -18,9 +18,9 @@ ghost use Rattle.round_trip.specs.Crashes.{FindsCutsFrom, FindsCutsOfNew, IsOver
 ghost use Rattle.round_trip.specs.Rounds.{HasMoment};
 
 use crate::{make, open};
-use base::{Piece, PoolError, Reply, Step};
+use base::{DEFAULT_CACHE_BLOCKS, Piece, PoolError, Reply, Step};
 use device_model::{Fault, MemDevice, SectorDevice};
-use import_replay::{Imported, import};
+use import_replay::{Imported, Limits, import};
 use pool_core::{PoolState, run};
 use std::alloc::Global;
 
@@ -66,7 +66,11 @@ pub fn import_and_run<D: SectorDevice>(
     ensures refusal { IfErr result.0 (IsImportRefusal (D.size device)
         (is_dirty_max_allowed dirty_max)) }
 {
-    match import(alloc, device, dirty_max, moment) {
+    let limits = Limits {
+        dirty_max,
+        cache_blocks: DEFAULT_CACHE_BLOCKS,
+    };
+    match import(alloc, device, limits, moment) {
         Ok(imported) => {
             let mut state = PoolState::new(imported);
             let answer = run(&mut state, steps);

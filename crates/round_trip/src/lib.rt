@@ -22,10 +22,10 @@ ghost use Rattle.round_trip.specs.Rounds.{IsOpened, ShowsMountedContents};
 mod clients;
 mod crashes;
 
-use base::PoolError;
+use base::{DEFAULT_CACHE_BLOCKS, PoolError};
 pub use crashes::{End, Round, go_round, go_rounds, import_and_run, play_rounds};
 use device_model::SectorDevice;
-use import_replay::{Imported, create, import};
+use import_replay::{Imported, Limits, create, import};
 use std::alloc::Global;
 
 /// Makes a pool on a device, and returns the device. `moment` is in seconds.
@@ -79,7 +79,11 @@ pub fn open<D: SectorDevice + Drop>(
     ensures reason { IsTrue D.keeps_model → IfErr result
         (λ e. IsReason (bytes_of (D.disk device).now) e × FindsOwn (D.disk device) e) }
 {
-    match import(alloc, device, dirty_max, moment) {
+    let limits = Limits {
+        dirty_max,
+        cache_blocks: DEFAULT_CACHE_BLOCKS,
+    };
+    match import(alloc, device, limits, moment) {
         Ok(imported) => Ok(imported),
         Err((error, _)) => Err(error),
     }

@@ -11,11 +11,11 @@ ghost use Rattle.scripts.specs.Devices.{IsImportRun, IsLeftByImport};
 
 use base::PoolError;
 use device_model::SectorDevice;
-use import_replay::{Imported, import_with};
+use import_replay::{Imported, Limits, import};
 use script_lines::Answer;
 use std::alloc::Global;
 
-/// Imports the pool on a device, as `import_replay::import_with` does, and says what was imported.
+/// Imports the pool on a device, as `import_replay::import` does, and says what was imported.
 ///
 /// # Errors
 /// Those of that call. The device comes back as the import left it.
@@ -41,7 +41,11 @@ pub fn import_for_mount<D: SectorDevice>(
         (λ p. (past : Past) → IsLeft past (D.disk device) → IsLeft past (D.disk p.0.device))
         (λ e. (past : Past) → IsLeft past (D.disk device) → IsLeft past (D.disk e.1)) }
 {
-    match import_with(alloc, device, dirty_max, cache_blocks, moment) {
+    let limits = Limits {
+        dirty_max,
+        cache_blocks,
+    };
+    match import(alloc, device, limits, moment) {
         Ok(imported) => {
             let answer = Answer::imported(imported.group(), imported.records());
             Ok((imported, answer))

@@ -50,7 +50,7 @@ pub trait MountedPool<D: SectorDevice, R>: Drop {
     /// memory, and mounts it. The answer is that of the import.
     ///
     /// # Errors
-    /// Those of `import_replay::import_with`, and of the mount those of `refuses`. The device comes back as the import
+    /// Those of `import_replay::import`, and of the mount those of `refuses`. The device comes back as the import
     /// left it.
     fn import(
         alloc: Global,

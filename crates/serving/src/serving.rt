@@ -15,7 +15,7 @@ use device_model::SectorDevice;
 use file_devices::FileRefusal;
 use frame_answers::{AnswerWriter, Ending, serve};
 use pool_loops::{Halt, work_beside_loops};
-use pool_threads::{LastSeen, Pool};
+use pool_threads::{LastSeen, Limits, Pool};
 use read_commands::{BadNumber, Failure, NotesRefusals, report_failure};
 use script_lines::FAILED;
 use std::alloc::Global;
@@ -130,11 +130,14 @@ fn open_pool<D: SectorDevice + NotesRefusals + Drop>(
         IsUnopened D.SectorDevice device arguments.entry e.0) }
     ensures still_held { IfErr result (λ e. LosesNothing D.SectorDevice device e.1) }
 {
-    let (dirty_max, cache_blocks) = (arguments.dirty_max, arguments.cache_blocks);
-    match Pool::open_with(alloc, device, dirty_max, cache_blocks, arguments.moment) {
+    let limits = Limits {
+        dirty_max: arguments.dirty_max,
+        cache_blocks: arguments.cache_blocks,
+    };
+    match Pool::open(alloc, device, limits, arguments.moment) {
         Ok(pool) => Ok(pool),
         Err((refusal, device)) => {
-            let number = BadNumber::of_limits(dirty_max, cache_blocks);
+            let number = BadNumber::of_limits(limits.dirty_max, limits.cache_blocks);
             let failure = Failure::of_pool(refusal, &device).for_number(number);
             Err((failure, device))
         }

@@ -59,7 +59,7 @@
 //!
 //! use anyhow::Result;
 //! use std::sync::Wait;
-//! use topzerad::{Bytes, DEFAULT_DIRTY_MAX, FileDevice, Group, ObjectId, Op, Ops, Owner};
+//! use topzerad::{Bytes, FileDevice, Group, Limits, ObjectId, Op, Ops, Owner};
 //! use topzerad::{Pool, PoolError, Range, create};
 //!
 //! fn main(rt: HostRuntime) -> Result<()> {
@@ -70,7 +70,7 @@
 //!
 //! fn write<R: Wait + AllocGlobal>(rt: &R, device: FileDevice) -> Result<Group> {
 //!     let device = create(device, b"tank", 77, 0).map_err(PoolError::from)?;
-//!     let pool = Pool::open(rt.alloc(), device, DEFAULT_DIRTY_MAX, 0).map_err(PoolError::from)?;
+//!     let pool = Pool::open(rt.alloc(), device, Limits::DEFAULT, 0).map_err(PoolError::from)?;
 //!     let mut handle = pool.handle();
 //!     let bytes = Bytes::from_slice(rt.alloc(), b"hello")?;
 //!     let ops = vec![in rt.alloc(); Op::Create(ObjectId(1)), Op::Write(ObjectId(1), 0, bytes)]?;
@@ -80,7 +80,7 @@
 //! }
 //!
 //! fn read<R: Wait + AllocGlobal>(rt: &R, device: FileDevice) -> Result<Bytes> {
-//!     let pool = Pool::open(rt.alloc(), device, DEFAULT_DIRTY_MAX, 0).map_err(PoolError::from)?;
+//!     let pool = Pool::open(rt.alloc(), device, Limits::DEFAULT, 0).map_err(PoolError::from)?;
 //!     let mut handle = pool.handle();
 //!     Ok(handle.fetch(rt, Owner(1), ObjectId(1), Range::WHOLE)?)
 //! }
@@ -98,7 +98,7 @@ pub use device_model::{Fault, MemDevice, SectorDevice};
 pub use file_devices::{
     Access, CallCause, FileCall, FileDevice, FileRefusal, HeldFile, RefusedCall, SectorFile,
 };
-pub use import_replay::{Imported, create, import, import_with};
+pub use import_replay::{Imported, Limits, create, import};
 pub use inspections::{Inspected, Soundness, View, find_damages, inspect, view_pool};
 pub use mounted::Mounted;
 pub use pool_core::{Duty, PoolState, Progress, run};

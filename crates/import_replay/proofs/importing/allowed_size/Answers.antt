@@ -10,7 +10,7 @@ returns-in_err-geometry-clause-refused c =
     let x = c.in_err-geometry.field-0.0 in
     let is = c.in_err-geometry.ensures.refused in
     let size : ℕ = sector_size * c.args.sectors in
-    let allowed : Bool = are_limits_allowed c.args.dirty_max c.args.cache_blocks in
+    let allowed : Bool = are_limits_allowed c.args.limits.dirty_max c.args.limits.cache_blocks in
     passed_on c.from_residual.result x _ c.from_residual.ensures.1
     (inl is, subst (λ e. IsImportRefusal size allowed e) (sym is) (λ sized. let no : false ≡ true = c.in_err-geometry.ensures.ok.1 sized in cc))
 

@@ -7,7 +7,7 @@ no_cache : false ≡ true → ⊥
 no_cache is = cc
 
 pub returns-clause-refused : goal.returns-clause-refused
-returns-clause-refused g c = is_refused c.import_with.result _ (ok_made c.import_with.result _ _ (λ i cache. cache.0) c.import_with.ensures.cache) no_cache
+returns-clause-refused g c = is_refused c.import.result _ (ok_made c.import.result _ _ (λ i cache. cache.0) c.import.ensures.cache) no_cache
 
 pub returns-clause-unchanged : goal.returns-clause-unchanged
-returns-clause-unchanged g c = IfErr-weaker c.import_with.result _ _ (λ e refused. refused.untouched (by_bounds (g.D.SectorDevice.size c.args.device) e.0 refused.kind)) c.import_with.ensures.refused
+returns-clause-unchanged g c = IfErr-weaker c.import.result _ _ (λ e refused. refused.untouched (by_bounds (g.D.SectorDevice.size c.args.device) e.0 refused.kind)) c.import.ensures.refused

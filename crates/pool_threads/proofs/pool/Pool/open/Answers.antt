@@ -8,7 +8,7 @@ use Rattle.import_replay.specs.RunStarts.{StartsRun}
 use Rattle.std.specs.Prelude.{IsTrue}
 use Rattle.pool_threads.specs.Handles.{LeavesSame, OpensBehind, StartsBehind, opening_view, shared_of}
 use Rattle.base.proofs.crash.LeftDisks.{import_left}
-use Rattle.pool_threads.proofs.pool.Pool.open_with.Goals as goal
+use Rattle.pool_threads.proofs.pool.Pool.open.Goals as goal
 
 pub share_after-requires : goal.share_after-requires
 share_after-requires g c =
@@ -25,7 +25,7 @@ returns-in-Ok-share_after-clause-opened g c =
     let keeps = IsTrue g.D.SectorDevice.keeps_model in
     let view = opening_view (shared_of c.in-Ok-share_after.pool) in
     let limit = (c.in-Ok.ensures.mounted.explained 0).exact.charges.limit in
-    subst (λ d. OpensBehind keeps (disk d) c.args.dirty_max view) c.of-before.ensures (subst (λ n. OpensBehind keeps (disk c.of-before.result.value) n view) limit c.in-Ok-share_after.ensures.opened)
+    subst (λ d. OpensBehind keeps (disk d) c.args.limits.dirty_max view) c.of-before.ensures (subst (λ n. OpensBehind keeps (disk c.of-before.result.value) n view) limit c.in-Ok-share_after.ensures.opened)
 
 pub returns-in-Ok-share_after-clause-imported : goal.returns-in-Ok-share_after-clause-imported
 returns-in-Ok-share_after-clause-imported g c = λ keeps. let m = c.in-Ok.imported.mounted in let image = bytes_of (g.D.SectorDevice.disk c.args.device).now in record {

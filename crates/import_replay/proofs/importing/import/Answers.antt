@@ -16,7 +16,7 @@ use Rattle.import_replay.specs.ShownMounts.{LabelsShow}
 use Rattle.import_replay.proofs.CachedImports.{holds_outside}
 use Rattle.import_replay.proofs.Refused.{bounds_refused, mount_refused}
 use Rattle.import_replay.proofs.ShownMounts.{labels_show}
-use Rattle.import_replay.proofs.importing.import_with.Goals as goal
+use Rattle.import_replay.proofs.importing.import.Goals as goal
 
 pub invariant_of-result-clause-stands : goal.invariant_of-result-clause-stands
 invariant_of-result-clause-stands g c = ∣ (λ keeps.
@@ -44,7 +44,7 @@ invariant_of-result-clause-explained g c =
 pub returns-in-Ok-mount_pool-clause-imported : goal.returns-in-Ok-mount_pool-clause-imported
 returns-in-Ok-mount_pool-clause-imported g c = λ keeps.
     holds_outside c.new-cached.ensures.device c.into_parts-device.ensures.device
-    (λ old new. IsImport (bytes_of (g.D.SectorDevice.disk old).now) (bytes_of (g.D.SectorDevice.disk new).now) c.args.dirty_max c.in-Ok-mount_pool.mounted) (c.in-Ok-mount_pool.ensures.imported keeps)
+    (λ old new. IsImport (bytes_of (g.D.SectorDevice.disk old).now) (bytes_of (g.D.SectorDevice.disk new).now) c.args.limits.dirty_max c.in-Ok-mount_pool.mounted) (c.in-Ok-mount_pool.ensures.imported keeps)
 
 pub returns-in-Ok-mount_pool-clause-own : goal.returns-in-Ok-mount_pool-clause-own
 returns-in-Ok-mount_pool-clause-own g c = λ keeps.
@@ -53,11 +53,11 @@ returns-in-Ok-mount_pool-clause-own g c = λ keeps.
 pub returns-in-Ok-mount_pool-clause-starts : goal.returns-in-Ok-mount_pool-clause-starts
 returns-in-Ok-mount_pool-clause-starts g c = λ keeps.
     holds_outside c.new-cached.ensures.device c.into_parts-device.ensures.device
-    (λ old new. StartsRun (g.D.SectorDevice.disk old) c.args.dirty_max (g.D.SectorDevice.disk new) c.in-Ok-mount_pool.mounted) (c.in-Ok-mount_pool.ensures.starts keeps)
+    (λ old new. StartsRun (g.D.SectorDevice.disk old) c.args.limits.dirty_max (g.D.SectorDevice.disk new) c.in-Ok-mount_pool.mounted) (c.in-Ok-mount_pool.ensures.starts keeps)
 
 pub returns-in-Err-clause-refused : goal.returns-in-Err-clause-refused
 returns-in-Err-clause-refused g c =
-    let allowed : Bool = are_limits_allowed c.args.dirty_max c.args.cache_blocks in
+    let allowed : Bool = are_limits_allowed c.args.limits.dirty_max c.args.limits.cache_blocks in
     let bad = c.in-Err.ensures.refused in
     bounds_refused g.D.SectorDevice allowed c.args.moment c.args.device c.in-Err.error bad.0
     (subst (λ (n : ℕ). IsImportRefusal n allowed c.in-Err.error) c.sectors.ensures.size bad.1)
@@ -70,6 +70,6 @@ pub returns-in-Err-mount_pool-clause-refused : goal.returns-in-Err-mount_pool-cl
 returns-in-Err-mount_pool-clause-refused g c =
     let e = c.in-Err-mount_pool.error in
     let sized : IsGeometry (g.D.SectorDevice.size c.args.device) = subst IsGeometry (c.in-Ok.ensures.size ∙ c.sectors.ensures.size) c.in-Ok.ensures.geometry in
-    mount_refused g.D.SectorDevice (are_limits_allowed c.args.dirty_max c.args.cache_blocks) c.args.moment c.args.device _ e (sized, c.in-Ok.ensures.limits)
+    mount_refused g.D.SectorDevice (are_limits_allowed c.args.limits.dirty_max c.args.limits.cache_blocks) c.args.moment c.args.device _ e (sized, c.in-Ok.ensures.limits)
     (holds_outside c.new-cached.ensures.device c.into_parts-device-in-Err-mount_pool.ensures.device
     (λ old new. IsMountRefused g.D.SectorDevice.keeps_model c.args.moment (g.D.SectorDevice.disk old) (g.D.SectorDevice.disk new) e) c.in-Err-mount_pool.ensures.refused)
