@@ -11,7 +11,6 @@ use Rattle.base.specs.declared.pointer.Pointer.{Pointer}
 use Rattle.base.specs.formats.Chain.{LogPiece, chain_addresses}
 use Rattle.base.specs.formats.Geometry.{block_count}
 use Rattle.base.specs.formats.Limits.{max_length, object_count}
-use Rattle.base.specs.formats.Names.{IsName}
 use Rattle.base.specs.formats.Uberblocks.{Uberblock}
 use Rattle.base.specs.history.Contents.{Contents}
 use Rattle.base.specs.steps.Groups.{Line}
@@ -23,6 +22,8 @@ use Rattle.trees.specs.Loading.{IsLimitedObject}
 use Rattle.tree_blocks.specs.Pointers.{pointers_of}
 use Rattle.tree_blocks.specs.ListedObjects.{AreWithin, ListsObjectsOf}
 use Rattle.inspections.specs.declared.inspection.Inspected.{Inspected}
+use Rattle.inspections.specs.declared.surveying.Surveyed.{Surveyed}
+use Rattle.uberblocks.specs.Slots.{fields_of}
 use Rattle.log_replay.specs.declared.outline.Outline.{Outline}
 use Rattle.import_replay.specs.FreeBlocks.{AreUnused}
 use Rattle.inspections.specs.Inspections.{AgreesWithImports, IsInspectedFrom, IsInspectionOf, IsToldOf, IsToldOfBounded}
@@ -42,7 +43,19 @@ are_within objects bounded n = go (finite.get objects n) (bounded n)
     go (Some bytes) h = (h.0, h.1)
 
 -- what was surveyed of an image
-module _ (keeps : Bool) (image : List ℕ) (size : ℕ) (u : Uberblock) (name : List ℕ) (named : IsName name) (tree : Tree) (blocks : List LogPiece) (s : IsSurveyedFor keeps image size u name tree blocks) where
+module _ (keeps : Bool) (image : List ℕ) (size : ℕ) (p : Surveyed) (s : IsSurveyedFor keeps image size p) where
+  abbrev u : Uberblock
+  u = fields_of p.found.uberblock
+
+  abbrev name : List ℕ
+  name = p.found.name
+
+  abbrev tree : Tree
+  tree = p.tree
+
+  abbrev blocks : List LogPiece
+  blocks = p.logged.items
+
   abbrev synced : Contents
   synced = record { name = name; objects = s.objects }
 
@@ -50,7 +63,7 @@ module _ (keeps : Bool) (image : List ℕ) (size : ℕ) (u : Uberblock) (name : 
   outline = record { name = name; tree = tree }
 
   outlined : IsOutlineOf outline synced
-  outlined = record { name_is = refl; lengths = s.lengths; bounded = record { name = named; objects = s.bounded } }
+  outlined = record { name_is = refl; lengths = s.lengths; bounded = record { name = p.found.named; objects = s.bounded } }
 
   found : IsTrue keeps → IsFound image u synced blocks
   found kept =

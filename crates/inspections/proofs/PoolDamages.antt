@@ -3,6 +3,7 @@ use Rattle.std.proofs.Common.{◌≡◌, ◌≢◌, inl, inr, ℕ, zero, suc, Li
 use Rattle.std.specs.Prelude.{Contains}
 use Rattle.base.specs.tree.Mount.{HasPool, IsChainDamaged, MountsTo, frame_of}
 use Rattle.base.specs.declared.error.PoolError.{PoolError}
+use Rattle.base.specs.declared.error.PoolError.TheVariants as refusal
 use Rattle.base.specs.formats.Blocks.{Frame}
 use Rattle.base.specs.formats.Uberblocks.{IsActive, Uberblock}
 use Rattle.base.specs.history.Contents.{Contents}
@@ -10,11 +11,12 @@ use Rattle.base.specs.tree.Damages.{IsSoundAt}
 use Rattle.base.specs.tree.Places.{Place, kind_of, pointer_of}
 use Rattle.base.specs.tree.Places.Place.{Root, Directory, Top, Indirect, Data}
 use Rattle.base.proofs.crash.LogChains.{mounted_not_damaged}
-use Rattle.base.proofs.crash.OneMount.{one-active}
 use Rattle.trees.specs.DamageLists.{ListsDamages}
 use Rattle.trees.specs.declared.damages.BlockDamage.{BlockDamage}
-use Rattle.trees.proofs.DamageLists.{first_listed, listed_damaged, none_listed}
-use Rattle.import_replay.specs.ImportRefusals.{IsDamagedWith, IsFindRefusal, IsWalkRefusal}
+use Rattle.trees.proofs.DamageLists.{first_listed, listed_damaged}
+use Rattle.log_replay.specs.Replays.{IsReplayCause}
+use Rattle.object_maps.proofs.BlockReads.{same-kind}
+use Rattle.import_replay.specs.ImportRefusals.{IsFindRefusal, IsWalkRefusal}
 use Rattle.import_replay.specs.ReadPools.{frame_of_size}
 use Rattle.import_replay.proofs.OwnRefusals.{is_sound}
 use Rattle.inspections.specs.PoolDamages.{HasDamages, HasTreeDamages}
@@ -32,28 +34,15 @@ only : (d e : BlockDamage) → Contains (d ∷ []) e → e ≡ d
 only d e (zero, low, is) = sym is
 only d e (suc k, low, is) = absurd (omega (arith, low))
 
--- a first damage of kind 6 is that of the chain
-pub log_damage : (image : List ℕ) (kind address : ℕ) (list : List BlockDamage) → kind ≡ 6 → list ≡ record { kind = kind; address = address } ∷ []
-    → IsDamagedWith (IsChainDamaged image) image kind address → HasDamages image list
-log_damage image kind address list log is (inl tree) = absurd (not_of_tree tree.damage.place (tree.damage.kind_is ∙ log))
-log_damage image kind address list log is (inr chain) =
-    let one : list ≡ record { kind = 6; address = address } ∷ [] = is ∙ ap (λ (k : ℕ). record { kind = k; address = address } ∷ []) log in (
+-- the damage of a chain is listed alone
+pub log_damage : (image : List ℕ) (kind address : ℕ) (list : List BlockDamage) → IsReplayCause (refusal.Damaged kind address)
+    → ((a : ℕ) → refusal.Damaged kind address ≡ refusal.Damaged 6 a → IsChainDamaged image a) → list ≡ record { kind = kind; address = address } ∷ [] → HasDamages image list
+log_damage image kind address list (inl none) damaged is = absurd (let no : refusal.Damaged kind address ≡ refusal.NoMemory = none in cc)
+log_damage image kind address list (inr (a, same)) damaged is =
+    let one : list ≡ record { kind = 6; address = address } ∷ [] = is ∙ ap (λ (k : ℕ). record { kind = k; address = address } ∷ []) (same-kind kind address 6 a same) in (
       (λ none. let long : 1 ≡ 0 = sym (ap (λ (l : List BlockDamage). length l) is) ∙ ap (λ (l : List BlockDamage). length l) none in omega (arith, long)),
-      inr (address, one, chain.1),
+      inr (address, one, damaged address (ap (λ (k : ℕ). refusal.Damaged k address) (same-kind kind address 6 a same))),
     )
-
--- a tree with a first damage of another kind has its damages listed, at least one
-pub tree_damages : (image : List ℕ) (kind address : ℕ) (list : List BlockDamage) → kind ≢ 6 → HasTreeDamages image list → IsDamagedWith (IsChainDamaged image) image kind address → HasDamages image list
-tree_damages image kind address list other has (inr chain) = absurd (other chain.0)
-tree_damages image kind address list other has (inl tree) = (some, inl has)
-  where
-    same : tree.u ≡ has.u
-    same = one-active image tree.u has.u tree.pool.active has.pool.active
-
-    some : list ≢ []
-    some none = tree.damage.damaged
-        (subst (λ (v : Uberblock). IsSoundAt image (frame_of image v) v.root tree.damage.place) (sym same)
-        (none_listed image (frame_of image has.u) has.u.root list has.lists none tree.damage.place tree.damage.in_range))
 
 -- what is listed in the frame of this uberblock is of its pool
 pub has_tree_damages : (image now : List ℕ) (size : ℕ) (frame : Frame) (u : Uberblock) (name : List ℕ) (list : List BlockDamage) → length image ≡ size → now ≡ image → HasPool image u name
@@ -85,6 +74,11 @@ pub find_walk : (e : PoolError) → IsFindRefusal e → IsWalkRefusal e
 find_walk e (inl is) = subst IsWalkRefusal (sym is) tt
 find_walk e (inr (inl is)) = subst IsWalkRefusal (sym is) tt
 find_walk e (inr (inr is)) = subst IsWalkRefusal (sym is) tt
+
+-- and a replay that is
+pub replay_walk : (e : PoolError) → IsReplayCause e → IsWalkRefusal e
+replay_walk e (inl is) = subst IsWalkRefusal (sym is) tt
+replay_walk e (inr (address, is)) = subst IsWalkRefusal (sym is) tt
 
 -- each damage of a list is one
 pub listed_log : (image : List ℕ) (list : List BlockDamage) → HasDamages image list → (d : BlockDamage) → Contains list d → d.kind ≡ 6 → IsChainDamaged image d.address

@@ -1,23 +1,20 @@
 //! Whether the pool of a device is whole, and if it isn't, each damage of its tree. It is found by reads alone.
 
-ghost use Rattle.std.specs.Prelude.{IfErr, IfOk, IsTrue, OnOk};
-ghost use Rattle.base.specs.tree.Mount.{IsChainDamaged};
+ghost use Rattle.std.specs.Prelude.{◌≡◌, ℕ, Bool, IfErr, IfOk, IsTrue, List, OnOk};
 ghost use Rattle.base.specs.disk.Disk.{bytes_of};
 ghost use Rattle.base.specs.formats.Geometry.{IsGeometry};
 ghost use Rattle.device_model.specs.Reading.{OnlyReads};
-ghost use Rattle.import_replay.specs.Devices.{IsSizedFor};
-ghost use Rattle.import_replay.specs.ImportRefusals.{IsDamagedWith, IsFindRefusal, IsReason};
 ghost use Rattle.inspections.specs.Refused.{IsInspectionRefused};
-ghost use Rattle.inspections.specs.PoolDamages.{HasDamages, HasTreeDamages, IsOfNoDamage, IsSoundnessOf};
+ghost use Rattle.inspections.specs.PoolDamages.{IsOfNoDamage, IsSoundnessOf};
+ghost use Rattle.inspections.specs.SurveyedPools.{IsSurveyedFor};
 
-use crate::inspection::{Inspected, inspect};
+use crate::inspection::{Inspected, report};
+use crate::surveying::{ExaminedPool, Surveyed, examine_pool};
 use base::PoolError;
-use checked_blocks::Kind;
 use device_model::SectorDevice;
-use import_replay::{find_pool, frame_of};
 use labels::Geometry;
 use std::alloc::Global;
-use trees::{BlockDamage, list_damages};
+use trees::BlockDamage;
 
 /// Whether a pool is whole.
 #[derive(Debug, PartialEq, Eq, Drop)]
@@ -49,57 +46,31 @@ pub fn find_damages<D: SectorDevice>(alloc: Global, device: &mut D) -> Result<So
     ensures undamaged { IfErr result IsOfNoDamage }
 {
     let geometry = Geometry::of(device.sectors())?;
-    match inspect(alloc, device) {
+    match examine_pool(alloc, device, geometry)? {
+        ExaminedPool::Whole(surveyed) => judge_log(alloc, geometry, surveyed),
+        ExaminedPool::Damaged(damages) => Ok(Soundness::Damaged(damages)),
+    }
+}
+
+// What is found of a pool whose tree is whole: what an import would mount, or the one damage of its log.
+fn judge_log(
+    alloc: Global,
+    geometry: Geometry,
+    surveyed: Surveyed,
+) -> Result<Soundness, PoolError>
+    requires surveyed { (keeps : Bool) × (image : List ℕ)
+        × IsSurveyedFor keeps image geometry surveyed }
+    ensures found { (keeps : Bool) (image : List ℕ) → IsTrue keeps
+        → IsSurveyedFor keeps image geometry surveyed → IfOk result (IsSoundnessOf image) }
+    ensures refused { IfErr result (λ e. e ≡ PoolError.NoMemory) }
+{
+    match report(alloc, geometry, surveyed) {
         Ok(inspected) => Ok(Soundness::Whole(inspected)),
         Err(PoolError::Damaged { kind, address }) => {
-            let first = BlockDamage { kind, address };
-            let damages = list_all(alloc, device, geometry, first)?;
+            let mut damages = Vec::new(alloc);
+            damages.push(BlockDamage { kind, address })?;
             Ok(Soundness::Damaged(damages))
         }
         Err(refusal) => Err(refusal),
     }
-}
-
-// All damages of the pool on a device that has this first one: those of its tree, or that of its log.
-fn list_all<D: SectorDevice>(
-    alloc: Global,
-    device: &mut D,
-    geometry: Geometry,
-    first: BlockDamage,
-) -> Result<Vec<BlockDamage>, PoolError>
-    requires sized { IsSizedFor D.SectorDevice geometry device.old }
-    ensures reads { OnlyReads D.SectorDevice result device.old device.new }
-    ensures refused { IfErr result IsFindRefusal }
-    ensures listed { IsTrue D.keeps_model
-        → IsDamagedWith (IsChainDamaged (bytes_of (D.disk device.old).now))
-        (bytes_of (D.disk device.old).now) first.kind first.address
-        → IfOk result (λ l. HasDamages (bytes_of (D.disk device.old).now) l.items) }
-    ensures reason { IsTrue D.keeps_model
-        → IfErr result (IsReason (bytes_of (D.disk device.old).now)) }
-{
-    if first.kind == Kind::Log as u64 {
-        let mut damages = Vec::new(alloc);
-        damages.push(first)?;
-        return Ok(damages);
-    }
-    list_tree_damages(alloc, device, geometry)
-}
-
-// All damages of the tree of the pool on a device.
-fn list_tree_damages<D: SectorDevice>(
-    alloc: Global,
-    device: &mut D,
-    geometry: Geometry,
-) -> Result<Vec<BlockDamage>, PoolError>
-    requires sized { IsSizedFor D.SectorDevice geometry device.old }
-    ensures reads { OnlyReads D.SectorDevice result device.old device.new }
-    ensures refused { IfErr result IsFindRefusal }
-    ensures listed { IsTrue D.keeps_model
-        → IfOk result (λ l. HasTreeDamages (bytes_of (D.disk device.old).now) l.items) }
-    ensures reason { IsTrue D.keeps_model
-        → IfErr result (IsReason (bytes_of (D.disk device.old).now)) }
-{
-    let found = find_pool(alloc, device, geometry)?;
-    let frame = frame_of(&found.uberblock, geometry);
-    list_damages(alloc, device, &frame, found.uberblock.root)
 }

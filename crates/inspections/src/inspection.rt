@@ -1,15 +1,18 @@
 //! What an import would mount, found by reads alone. No object's bytes and no pointer to a record stay in memory. The
 //! lengths of the objects are reported.
 
-ghost use Rattle.std.specs.Prelude.{◌≡◌, IfErr, IfOk, IsTrue, OnOk};
+ghost use Rattle.std.specs.Prelude.{◌≡◌, ℕ, Bool, IfErr, IfOk, IsTrue, List, OnOk};
 ghost use Rattle.base.specs.disk.Disk.{bytes_of};
 ghost use Rattle.base.specs.formats.Geometry.{IsGeometry, block_count};
+ghost use Rattle.base.specs.tree.Mount.{IsChainDamaged};
 ghost use Rattle.device_model.specs.Reading.{OnlyReads};
+ghost use Rattle.log_replay.specs.Replays.{IsReplayCause};
 ghost use Rattle.uberblocks.specs.Slots.{fields_of};
 ghost use Rattle.inspections.specs.Inspections.{AgreesWithImports, IsInspectedFrom, IsInspectionOf, IsToldOfBounded};
 ghost use Rattle.inspections.specs.Refused.{IsInspectionRefused};
+ghost use Rattle.inspections.specs.SurveyedPools.{IsSurveyedFor};
 
-use crate::surveying::survey_pool;
+use crate::surveying::{Surveyed, survey_pool};
 use base::{Group, ObjectId, PoolError, PoolName};
 use device_model::SectorDevice;
 use import_replay::take_logged;
@@ -64,7 +67,35 @@ pub fn inspect<D: SectorDevice>(alloc: Global, device: &mut D) -> Result<Inspect
         (IsInspectionRefused D.SectorDevice device.old device.new) }
 {
     let geometry = Geometry::of(device.sectors())?;
-    let (found, tree, mut free, logged) = survey_pool(alloc, device, geometry)?;
+    let surveyed = survey_pool(alloc, device, geometry)?;
+    report(alloc, geometry, surveyed)
+}
+
+// What an import would mount of a pool that was surveyed: the records of its chain are replayed on the name and the
+// lengths. It is refused `Damaged` for the first record that can't take place.
+pub(crate) fn report(
+    alloc: Global,
+    geometry: Geometry,
+    surveyed: Surveyed,
+) -> Result<Inspected, PoolError>
+    requires surveyed { (keeps : Bool) × (image : List ℕ)
+        × IsSurveyedFor keeps image geometry surveyed }
+    ensures mounted { (keeps : Bool) (image : List ℕ) → IsTrue keeps
+        → IsSurveyedFor keeps image geometry surveyed
+        → IfOk result (λ i. IsInspectionOf image i × AgreesWithImports image i) }
+    ensures bounded { IfOk result IsToldOfBounded }
+    ensures cause { IfErr result IsReplayCause }
+    ensures damaged { (keeps : Bool) (image : List ℕ) → IsTrue keeps
+        → IsSurveyedFor keeps image geometry surveyed
+        → IfErr result (λ e. (address : ℕ) → e ≡ PoolError.Damaged 6 address
+        → IsChainDamaged image address) }
+{
+    let Surveyed {
+        found,
+        tree,
+        mut free,
+        logged,
+    } = surveyed;
     take_logged(&mut free, geometry, &logged);
     let mut outline = Outline {
         name: found.name,

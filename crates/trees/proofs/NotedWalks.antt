@@ -57,14 +57,21 @@ tells_after image frame root start middle begin e old now whole low here noted a
 
 -- no part yet, and one part after another
 pub noted_none : (damages : Damages) → IsNoted damages damages true
-noted_none damages = record { mode = refl; first = λ ends. refl; kept = λ whole. refl }
+noted_none damages = record { mode = refl; first = λ ends. refl; kept = λ whole. refl; grown = omega arith; noted = λ damaged. let no : true ≡ false = damaged in cc }
 
 pub noted_then : (old between new : Damages) (first second : Bool) → IsNoted old between first → IsNoted between new second → IsNoted old new (first && second)
 noted_then old between new first second one two = record {
   mode = two.mode ∙ one.mode;
   first = λ ends. and_from first second (one.first ends) (two.first (one.mode ∙ ends));
   kept = λ all. let both = and_parts first second all in two.kept both.1 ∙ one.kept both.0;
+  grown = omega (arith, one.grown, two.grown);
+  noted = more first second one.noted two.noted;
 }
+  where
+    more : (first second : Bool) → (first ≡ false → length old.list.items < length between.list.items) → (second ≡ false → length between.list.items < length new.list.items)
+        → (first && second) ≡ false → length old.list.items < length new.list.items
+    more false second here there damaged = let low = here refl in omega (arith, low, two.grown)
+    more true second here there damaged = let low = there damaged in omega (arith, one.grown, low)
 
 -- a sound block before the rest of its part
 pub found_behind : (image : List ℕ) (frame : Frame) (root : Pointer) (start middle end : ℕ) (old new : Damages) (r : Result Bool PoolError) → start ≤ middle → AreSound image frame root start middle

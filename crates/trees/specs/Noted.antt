@@ -1,5 +1,5 @@
 -- What a walk makes of the damages that it comes to: it ends at the first, or notes each and goes on.
-use Rattle.std.specs.Prelude.{ℕ, ◌≡◌, Bool, true, false, IsTrue, List, Some, Result, MatchResult}
+use Rattle.std.specs.Prelude.{ℕ, ◌≡◌, ◌<◌, ◌≤◌, Bool, true, false, IsTrue, List, Some, Result, MatchResult, length}
 use Rattle.base.specs.declared.error.PoolError.{PoolError}
 use Rattle.base.specs.declared.error.PoolError.TheVariants.{Damaged}
 use Rattle.base.specs.declared.pointer.Pointer.{Pointer}
@@ -12,11 +12,13 @@ use Rattle.trees.specs.DamageLists.{AddsDamages}
 use Rattle.trees.specs.Walking.{TellsDamage}
 
 -- a part of a walk that came to its end: it is whole where a damage would have ended the walk, and of a whole part
--- nothing is noted
+-- nothing is noted, of any other something
 pub record IsNoted (old new : Damages) (whole : Bool) : Type 0 where
   pub mode : new.goes_on ≡ old.goes_on
   pub first : old.goes_on ≡ false → whole ≡ true
   pub kept : IsTrue whole → new.list.items ≡ old.list.items
+  pub grown : length old.list.items ≤ length new.list.items
+  pub noted : whole ≡ false → length old.list.items < length new.list.items
 
 -- and of any part: a damage ends the walk only where none is to be noted
 abbrev pub Notes : Damages → Damages → Result Bool PoolError → Type 0

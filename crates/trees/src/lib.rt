@@ -1,4 +1,4 @@
-//! What is read of a whole tree: its load and its survey in the order of its walk, and the list of its damages.
+//! What is read of a whole tree, in the order of its walk: its load, its survey, and all its damages.
 #![tactic(auto)]
 
 mod damages;
@@ -10,7 +10,7 @@ mod paths;
 mod read_ahead;
 mod walk;
 
-pub use damages::{BlockDamage, list_damages};
+pub use damages::{BlockDamage, Examined, examine};
 pub use laws::trees_are_by_paths;
 pub use paths::find_entry;
 pub use walk::{Loaded, load, survey};

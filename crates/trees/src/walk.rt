@@ -7,7 +7,7 @@
 //! than twenty blocks in memory: those of the root, a directory, a top and an indirect block, and copies of four
 //! records, which are read ahead.
 
-ghost use Rattle.std.specs.Prelude.{◌≡◌, ℕ, ◌≤◌, List, IfOk, IfErr, IsTrue, vec_len};
+ghost use Rattle.std.specs.Prelude.{◌≡◌, ℕ, ◌≤◌, [], List, IfOk, IfErr, IsTrue, false, true, vec_len};
 ghost use Rattle.base.specs.formats.Limits.{object_count};
 ghost use Rattle.base.specs.disk.Disk.{bytes_of};
 ghost use Rattle.base.specs.formats.Geometry.{block_address};
@@ -19,8 +19,10 @@ ghost use Rattle.tree_blocks.specs.Pointers.{pointers_of};
 ghost use Rattle.trees.specs.FreeBlocks.{AreUnnamed};
 ghost use Rattle.object_maps.specs.BlockReads.{IsLoadRefusal};
 ghost use Rattle.base.specs.declared.pointer.Pointer.{Pointer};
-ghost use Rattle.trees.specs.Surveys.{HasLimitedObjects, HasObjects};
+ghost use Rattle.trees.specs.DamageLists.{IsListRefusal, ListsDamages};
+ghost use Rattle.trees.specs.Surveys.{HasLimitedObjects, HasObjects, IsExamined, damages_of};
 
+use crate::damages::Examined;
 use crate::objects::{Entries, Objects};
 use crate::one_walk::Damages;
 use base::{POINTER_COUNT, Pointer, PoolError, Told};
@@ -136,12 +138,40 @@ pub fn survey<D: SectorDevice>(
         (kind address : ℕ) → e ≡ PoolError.Damaged kind address
         → IsFirstDamage (bytes_of (D.disk device.old).now) frame.now root kind address) }
 {
+    match walk_lengths(alloc, device, frame, root, Damages::first(alloc))? {
+        Examined::Whole { tree, free } => Ok((tree, free)),
+        Examined::Damaged(_) => unreachable!(),
+    }
+}
+
+// Walks the tree under a root pointer, and is told no object's bytes. It ends at the first damage, or goes on after
+// each, as `damages` says.
+pub(crate) fn walk_lengths<D: SectorDevice>(
+    alloc: Global,
+    device: &mut D,
+    frame: &Frame,
+    root: Pointer,
+    mut damages: Damages,
+) -> Result<Examined, PoolError>
+    requires fits { block_address frame.now.blocks ≤ D.size device.old }
+    requires none { damages.list.items ≡ [] }
+    ensures reads { OnlyReads D.SectorDevice result device.old device.new }
+    ensures cause { IfErr result IsLoadRefusal }
+    ensures goes_on { damages.goes_on ≡ true → IfErr result IsListRefusal }
+    ensures first { damages.goes_on ≡ false → IfOk result (λ e. damages_of e ≡ []) }
+    ensures examined { IfOk result
+        (IsExamined D.keeps_model (bytes_of (D.disk device.old).now) frame.now root) }
+    ensures listed { IsTrue D.keeps_model → IfOk result (λ e.
+        ListsDamages (bytes_of (D.disk device.old).now) frame.now root (damages_of e)) }
+    ensures damage { IsTrue D.keeps_model → IfErr result (λ e.
+        (kind address : ℕ) → e ≡ PoolError.Damaged kind address
+        → IsFirstDamage (bytes_of (D.disk device.old).now) frame.now root kind address) }
+{
     let loader = Loader { alloc, frame };
     let mut entries = Entries::new(alloc)?;
     let mut free = FreeSet::new(alloc, frame.blocks() as usize)?;
     let mut directories = vec![in alloc; Pointer::NONE; POINTER_COUNT]?;
-    let mut damages = Damages::first(alloc);
-    loader.walk_tree(
+    let whole = loader.walk_tree(
         device,
         &root,
         &mut directories,
@@ -149,7 +179,11 @@ pub fn survey<D: SectorDevice>(
         &mut free,
         &mut damages,
     )?;
-    Ok(entries.into_tree(root, directories, free))
+    if !whole {
+        return Ok(Examined::Damaged(damages.list));
+    }
+    let (tree, free) = entries.into_tree(root, directories, free);
+    Ok(Examined::Whole { tree, free })
 }
 
 // What is told of an object while it is loaded: its bytes, and its strips.
