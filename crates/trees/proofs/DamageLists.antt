@@ -24,7 +24,6 @@ use Rattle.trees.specs.Walking.{AreSound, IsDataOf, directory_index, objects_ind
 use Rattle.trees.proofs.WalkOrder.{index-directory, index-object, index_of_strip, index_within, no_directory-object, no_directory-strip, no_top-strip, object-stride, same-object, same-strip, sound_one}
 use Rattle.trees.proofs.WalkParts.{first_index, no_top, short_rest}
 use Rattle.object_maps.proofs.BlockReads.{same-kind, same-address}
-use Rattle.trees.proofs.WalkDamages.{same_payload, padded-back}
 
 behind_some : (w s : ℕ) → 0 < s → w + 1 ≤ w + s
 behind_some w s some = omega (arith, some)
@@ -300,51 +299,6 @@ one_damage image frame root place start end old new in_range from to bad is = re
         → Contains (place ∷ []) other ⊎ ((upper : Place) × Contains (place ∷ []) upper × LiesBelow upper other)
     all other there high (inl after) low = inr (place, (0, omega arith, refl), below_place place other in_range there after (omega (arith, high, to)))
     all other there high (inr before) low = inl (0, omega arith, same_place place other in_range there (omega (arith, low, before, from)))
-
--- a place whose block is not there, or not well formed, is not sound
-pub unsound : (image : List ℕ) (frame : Frame) (root : Pointer) (place : Place) (pointer : Pointer) → pointer_of image root place ≡ pointer → pointer ≢ no_pointer
-    → ((payload : List ℕ) → Opens image frame (kind_of place) (number_of_place place) pointer payload → IsWellFormed image frame root place payload → ⊥) → IsSoundAt image frame root place → ⊥
-unsound image frame root place pointer at named bad (inl none) = named (sym at ∙ none)
-unsound image frame root place pointer at named bad (inr block) = bad block.0 (subst (λ (p : Pointer). Opens image frame (kind_of place) (number_of_place place) p block.0) at block.1) block.2
-
--- what is added for a place
-told-entry : (image : List ℕ) (root : Pointer) (place : Place) (pointer : Pointer) (kind address : ℕ) → pointer_of image root place ≡ pointer → kind_of place ≡ kind → pointer.address ≡ address
-    → record { kind = kind; address = address } ≡ block_damage image root place
-told-entry image root place pointer kind address at is_kind is_address = rw (at, is_kind, is_address) refl
-
--- a block that is not there is the damage that is added
-pub missing_added : (image : List ℕ) (frame : Frame) (root : Pointer) (place : Place) (start end : ℕ) (pointer : Pointer) (e : PoolError) (old new : List BlockDamage) → IsPlace place
-    → start ≡ walk_index_of place → end ≡ walk_index_after place → pointer_of image root place ≡ pointer → pointer ≢ no_pointer
-    → TellsBlock image frame (kind_of place) (number_of_place place) pointer e → AddsTold e old new → AddsDamages image frame root start end old new
-missing_added image frame root place start end pointer e old new in_range from to at named tells told =
-    let t = tells told.0 told.1 told.2 in
-    one_damage image frame root place start end old new in_range from to
-    (unsound image frame root place pointer at named (λ payload opens formed. t.1.1 payload opens))
-    (told.3 ∙ ap (λ (d : BlockDamage). old ++ d ∷ []) (told-entry image root place pointer told.0 told.1 at t.0 t.1.0))
-
--- a block that is not well formed is the damage that is added
-pub formless_added : (image : List ℕ) (frame : Frame) (root : Pointer) (place : Place) (start end : ℕ) (pointer : Pointer) (payload : List ℕ) (e : PoolError) (old new : List BlockDamage) → IsPlace place
-    → start ≡ walk_index_of place → end ≡ walk_index_after place → pointer_of image root place ≡ pointer → pointer ≢ no_pointer
-    → Opens image frame (kind_of place) (number_of_place place) pointer payload → (IsWellFormed image frame root place payload → ⊥) → e ≡ Damaged (kind_of place) pointer.address
-    → AddsTold e old new → AddsDamages image frame root start end old new
-formless_added image frame root place start end pointer payload e old new in_range from to at named opens not is told =
-    let d : Damaged (kind_of place) pointer.address ≡ Damaged told.0 told.1 = sym is ∙ told.2 in
-    one_damage image frame root place start end old new in_range from to
-    (unsound image frame root place pointer at named
-    (λ other opened formed. not (subst (λ (l : List ℕ). IsWellFormed image frame root place l) (same_payload image frame (kind_of place) (number_of_place place) pointer other payload opened opens) formed)))
-    (told.3 ∙ ap (λ (b : BlockDamage). old ++ b ∷ []) (told-entry image root place pointer told.0 told.1 at
-    (same-kind (kind_of place) pointer.address told.0 told.1 d) (same-address (kind_of place) pointer.address told.0 told.1 d)))
-
--- a record whose padding is not zeros is the damage that is added
-pub record_added : (image : List ℕ) (frame : Frame) (root : Pointer) (m k size count : ℕ) (pointer : Pointer) (payload : List ℕ) (e : PoolError) (old new : List BlockDamage) → m < indirect_count → k < pointer_count
-    → IsDataOf image root m k pointer size → Opens image frame 5 (pointer_count * m + k) pointer payload → length payload ≡ 4032 → count ≡ min (size - record_start m k) 4032
-    → (drop count payload ≡ replicate (length (drop count payload)) 0 → ⊥) → e ≡ Damaged 5 pointer.address → AddsTold e old new
-    → AddsDamages image frame root (walk_index_of (Data m k)) (walk_index_of (Data m k) + 1) old new
-record_added image frame root m k size count pointer payload e old new hm hk named_by opens long is not error told =
-    let past : length_in image root (object_of_indirect m) - record_start m k ≡ size - record_start m k = ap (λ (s : ℕ). s - record_start m k) named_by.size_is in
-    formless_added image frame root (Data m k) (walk_index_of (Data m k)) (walk_index_of (Data m k) + 1) pointer payload e old new (hm, hk) refl refl named_by.at named_by.there opens
-    (λ formed. not (padded-back payload (size - record_start m k) count long is (subst (λ (s : ℕ). drop s payload ≡ replicate (record_size - s) 0) past formed)))
-    error told
 
 next_object : (s k : ℕ) → s + 7141 * k + 7141 ≡ s + 7141 * (k + 1)
 next_object s k = omega arith

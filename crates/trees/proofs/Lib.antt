@@ -8,6 +8,7 @@ pub mod LoadedEntries
 pub mod LoadedTrees
 pub mod WalkOrder
 pub mod WalkDamages
+pub mod SoundBlocks
 pub mod ReadAheads
 pub mod WalkParts
 pub mod DamageLists

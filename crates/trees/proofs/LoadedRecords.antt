@@ -18,6 +18,7 @@ use Rattle.base.proofs.tree.Strips.{strip-which}
 use Rattle.base.proofs.disk.Put.{length-put, part-put_same, part-put_apart}
 use Rattle.tree_blocks.specs.Pointers.{TellsStrip, payload_pointers, strip_in, told_record}
 use Rattle.contents.specs.Bytes.{AreBytes}
+use Rattle.trees.specs.SoundBlocks.{IsFormed}
 use Rattle.trees.specs.Loading.{AreLoadedRecords, AreLoadedStrips, HasZeroRecord, IsLoadedRecord, IsLoadedStrip, KeepsOthers}
 use Rattle.tree_blocks.proofs.ToldStrips.{payload_pointer, told-none, told-some}
 
@@ -91,12 +92,25 @@ pub bytes-zeros : (n : ℕ) → AreBytes (replicate n 0)
 bytes-zeros zero = refl
 bytes-zeros (suc n) = bytes-zeros n
 
+-- past the object's end the payload of a record is zeros
+padded_back : (payload : List ℕ) (past count : ℕ) → length payload ≡ 4032 → count ≡ min past 4032 → drop past payload ≡ replicate (record_size - past) 0
+    → drop count payload ≡ replicate (length (drop count payload)) 0
+padded_back payload past count long is padded = go (cases_lt past 4032)
+  where
+    go : (past < 4032) ⊎ (4032 ≤ past) → drop count payload ≡ replicate (length (drop count payload)) 0
+    go (inl low) =
+        let e : count ≡ past = omega (arith, is, low) in
+        let size : record_size - past ≡ length (drop count payload) = omega (arith, length-drop count payload, long, e) in
+        ap (λ (k : ℕ). drop k payload) e ∙ padded ∙ ap (λ (k : ℕ). replicate k 0) size
+    go (inr high) =
+        let e : drop count payload ≡ [] = drop_all count payload (omega (arith, long, is, high)) in
+        e ∙ sym (ap (λ (l : List ℕ). replicate (length l) 0) e)
+
 -- a record as it is taken from the payload of its block
 pub record_taken : (keeps : Bool) (image : List ℕ) (frame : Frame) (m k size count : ℕ) (pointer : Pointer) (payload bytes new : List ℕ) → length payload ≡ 4032 → length bytes ≡ size
-    → record_start m k < size → count ≡ min (size - record_start m k) 4032 → drop count payload ≡ replicate (length (drop count payload)) 0
-    → new ≡ put (record_start m k) (take count payload) bytes
+    → record_start m k < size → count ≡ min (size - record_start m k) 4032 → IsFormed frame size (Data m k) payload → new ≡ put (record_start m k) (take count payload) bytes
     → IsBlockAddress frame.blocks pointer.address → (IsTrue keeps → OpensAt image frame (Data m k) pointer payload) → IsLoadedRecord keeps image frame m k pointer new
-record_taken keeps image frame m k size count pointer payload bytes new long as_long within is zeros put_is placed opens =
+record_taken keeps image frame m k size count pointer payload bytes new long as_long within is formed put_is placed opens =
     go (record_number m k) refl
   where
     go : (r : ℕ) → record_number m k ≡ r → IsLoadedRecord keeps image frame m k pointer new
@@ -108,6 +122,7 @@ record_taken keeps image frame m k size count pointer payload bytes new long as_
         let fits : record_size * r + length (take count payload) ≤ length bytes = omega (arith, counted, inside, length-take count payload) in
         let same_size : length new ≡ length bytes = ap length put_at ∙ length-put (record_size * r) (take count payload) bytes fits in
         let front : record_bytes r new ≡ take count payload = ap (λ (l : List ℕ). record_bytes r l) put_at ∙ part-taken record_size (record_size * r) count payload bytes long inside counted in
+        let zeros = padded_back payload (size - record_start m k) count long is formed in
         let whole = taken-padded record_size count payload (record_bytes r new) long (omega (arith, counted)) zeros front in
         record {
           placed = inr placed;

@@ -1,5 +1,5 @@
 -- What a walk that notes damages finds, part by part.
-use Rattle.std.proofs.Common.{◌≡◌, ◌≢◌, ℕ, ◌+◌, ◌<◌, ◌≤◌, ◌&&◌, Bool, true, false, List, ◌++◌, length, map, refl, ap, sym, subst, ◌∙◌, arith, inl, inr}
+use Rattle.std.proofs.Common.{◌≡◌, ◌≢◌, ℕ, ◌+◌, ◌<◌, ◌≤◌, ◌&&◌, Bool, true, false, List, [], ◌∷◌, ◌++◌, length, map, refl, ap, sym, subst, ◌∙◌, arith, inl, inr}
 use Rattle.std.specs.Prelude.{Contains, IfErr, IfOk, IsTrue, OnOk, Result, Ok, Err}
 use Rattle.std.proofs.lemmas.Bool.{and_from, and_parts}
 use Rattle.std.proofs.lemmas.List.{length-append, length-map}
@@ -8,24 +8,38 @@ use Rattle.base.specs.declared.error.PoolError.TheVariants.{Damaged}
 use Rattle.base.specs.declared.pointer.Pointer.{Pointer}
 use Rattle.base.specs.formats.Blocks.{Frame}
 use Rattle.base.specs.formats.Limits.{object_count, object_stride}
-use Rattle.base.specs.tree.Places.{Place, levels_in, walk_index_of_indirect, walk_index_of_object}
+use Rattle.base.specs.tree.Places.{Place, IsPlace, levels_in, walk_index_of, walk_index_of_indirect, walk_index_of_object}
 use Rattle.base.specs.tree.Damages.{IsSoundAt}
 use Rattle.trees.specs.declared.damages.BlockDamage.{BlockDamage}
 use Rattle.trees.specs.declared.one_walk.Damages.{Damages}
-use Rattle.trees.specs.DamageLists.{AddsDamages, AddsTold, IsJudged, IsListRefusal, block_damage}
+use Rattle.trees.specs.DamageLists.{AddsDamages, AddsTold, IsJudged, IsListRefusal, block_damage, walk_index_after}
 use Rattle.object_maps.specs.BlockReads.{IsLoadRefusal}
 use Rattle.trees.specs.Noted.{Finds, IsNoted}
+use Rattle.trees.specs.ObjectPaths.{TellsPlace}
 use Rattle.trees.specs.Walking.{AreSound, IsDamageFrom, TellsDamage}
-use Rattle.trees.proofs.WalkOrder.{damage_behind}
-use Rattle.trees.proofs.DamageLists.{short_added, sound_before}
+use Rattle.trees.proofs.WalkOrder.{damage_behind, sound_none}
+use Rattle.trees.proofs.DamageLists.{one_damage, short_added, sound_before}
 use Rattle.trees.proofs.WalkParts.{short_tells}
 
--- a damage that is noted, or told
-pub found_noted : (image : List ℕ) (frame : Frame) (root : Pointer) (start end : ℕ) (error : PoolError) (old new : Damages) (r : Result Bool PoolError)
-    → OnOk r (AddsTold error old.list.items new.list.items) → (AddsTold error old.list.items new.list.items → AddsDamages image frame root start end old.list.items new.list.items)
-    → IfErr r (λ e. (kind address : ℕ) → e ≡ Damaged kind address → error ≡ Damaged kind address) → TellsDamage image frame root start error → Finds image frame root start end old new r
-found_noted image frame root start end error old new (Ok whole) added adds told tells = adds added
-found_noted image frame root start end error old new (Err e) added adds told tells = λ kind address d. tells kind address (told kind address d)
+-- the damage of a place that the walk has come to: it is noted, or told
+pub place_found : (image : List ℕ) (frame : Frame) (root : Pointer) (place : Place) (start end : ℕ) (error : PoolError) (old new : Damages) (r : Result Bool PoolError) → IsPlace place
+    → start ≡ walk_index_of place → end ≡ walk_index_after place → TellsPlace image frame root place error
+    → OnOk r (AddsTold error old.list.items new.list.items) → IfErr r (λ e. (kind address : ℕ) → e ≡ Damaged kind address → error ≡ Damaged kind address) → Finds image frame root start end old new r
+place_found image frame root place start end error old new (Ok whole) in_range from to tells (kind, address, is, added) told =
+    let (kind_is, address_is, bad) = tells kind address is in
+    one_damage image frame root place start end old.list.items new.list.items in_range from to bad
+    (added ∙ ap (λ (d : BlockDamage). old.list.items ++ d ∷ []) (rw (kind_is, address_is) refl))
+place_found image frame root place start end error old new (Err e) in_range from to tells added told = λ kind address is.
+    let (kind_is, address_is, bad) = tells kind address (told kind address is) in
+    record {
+      place = place;
+      in_range = in_range;
+      kind_is = kind_is;
+      address_is = address_is;
+      damaged = bad;
+      reached = omega (arith, from);
+      before = sound_none image frame root start (walk_index_of place) (omega (arith, from));
+    }
 
 no_more : {X : Type 0} (old more : List X) → old ≡ old ++ more → length more ≡ 0
 no_more old more same = let e : length old ≡ length old + length more = ap length same ∙ length-append old more in omega (arith, e)
@@ -93,8 +107,8 @@ pub if_ok_all : {P Q R S : Type 0} (r : Result Bool PoolError) → (P → Q → 
 if_ok_all (Ok whole) f p q s = λ all. f p (q all) (s all)
 if_ok_all (Err e) f p q s = tt
 
-pub on_ok_always : {P : Type 0} (r : Result Bool PoolError) → P → OnOk r P
-on_ok_always (Ok whole) p = p
+pub on_ok_always : {A P : Type 0} (r : Result A PoolError) → P → OnOk r P
+on_ok_always (Ok a) p = p
 on_ok_always (Err e) p = tt
 
 pub if_ok_parts : {P Q R S : Type 0} (r : Result Bool PoolError) → (P → Q → R → S) → OnOk r P → OnOk r Q → IfOk r (λ whole. IsTrue whole → R) → IfOk r (λ whole. IsTrue whole → S)

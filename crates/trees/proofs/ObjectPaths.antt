@@ -23,7 +23,6 @@ use Rattle.tree_blocks.specs.declared.forms.Entry.{Entry}
 use Rattle.trees.specs.ObjectPaths.{IsOnPath, TellsPlace}
 use Rattle.trees.specs.Walking.{IsObjectAt}
 use Rattle.object_maps.specs.BlockReads.{TellsBlock}
-use Rattle.trees.proofs.DamageLists.{unsound}
 use Rattle.trees.proofs.LoadedRecords.{past_zeros}
 use Rattle.object_maps.proofs.BlockReads.{same-address, same-kind}
 use Rattle.trees.proofs.WalkDamages.{same_payload}
@@ -117,24 +116,6 @@ tree_by_path image frame root objects tree n below =
       | inr h ↦ by_entry image frame root n h.0 h.1 (finite.get objects n)
           (subst (λ (m : ℕ). IsEntry image frame m (entry_in h.0 (n % entry_count)) (finite.get objects m)) (div-add-mod n entry_count) (h.2 (n % entry_count) k_below))
     ]
-
--- a block that is not there, or whose form is none, is the place that its refusal tells
-pub place_missing : (image : List ℕ) (frame : Frame) (root : Pointer) (place : Place) (pointer : Pointer) (e : PoolError) → pointer_of image root place ≡ pointer → pointer ≢ no_pointer
-    → TellsBlock image frame (kind_of place) (number_of_place place) pointer e → TellsPlace image frame root place e
-place_missing image frame root place pointer e at named tells = λ kind address d.
-    let t = tells kind address d in
-    (t.0, ap (λ (p : Pointer). p.address) at ∙ t.1.0, unsound image frame root place pointer at named (λ payload opens formed. t.1.1 payload opens))
-
-pub place_formless : (image : List ℕ) (frame : Frame) (root : Pointer) (place : Place) (pointer : Pointer) (payload : List ℕ) (e : PoolError) → pointer_of image root place ≡ pointer → pointer ≢ no_pointer
-    → OpensAt image frame place pointer payload → (IsWellFormed image frame root place payload → ⊥) → e ≡ Damaged (kind_of place) pointer.address → TellsPlace image frame root place e
-place_formless image frame root place pointer payload e at named opens not is = λ kind address d.
-    let told : Damaged (kind_of place) pointer.address ≡ Damaged kind address = sym is ∙ d in (
-      same-kind (kind_of place) pointer.address kind address told,
-      ap (λ (p : Pointer). p.address) at ∙ same-address (kind_of place) pointer.address kind address told,
-      unsound image frame root place pointer at named
-          (λ other opened formed. not (subst (λ (l : List ℕ). IsWellFormed image frame root place l)
-          (same_payload image frame (kind_of place) (number_of_place place) pointer other payload opened opens) formed)),
-    )
 
 -- the entry of object n, from the payload of its directory
 pub entry_at : (image : List ℕ) (frame : Frame) (root : Pointer) (n : ℕ) (pointer : Pointer) (payload : List ℕ) (entry : Entry) → pointer_of image root (Directory (n / entry_count)) ≡ pointer

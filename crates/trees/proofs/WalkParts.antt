@@ -17,7 +17,7 @@ use Rattle.tree_blocks.specs.Forms.{AreRecordForms, AreStripForms}
 use Rattle.tree_blocks.specs.Pointers.{pointer_of_list}
 use Rattle.trees.specs.Walking.{AreSound, IsDamageFrom, TellsDamage, IsDataOf, AreDataOf, AreStripsOf, IsIndirectOf, IsObjectAt, IsTopOf, IsPayloadOf, AreDirectoriesOf, directory_index, objects_index}
 use Rattle.trees.proofs.WalkOrder.{object-stride, index_within, index_of_strip, index-directory, index-objects, sound_none, sound_more, sound_one, damage_behind}
-use Rattle.trees.proofs.WalkDamages.{below_block, sound_at, formless_damage, there}
+use Rattle.trees.proofs.WalkDamages.{below_block}
 
 -- one part after another, by equal indexes
 pub sound_then : (image : List ℕ) (frame : Frame) (root : Pointer) (start middle begin last end : ℕ) → middle ≡ begin → last ≡ end → AreSound image frame root start middle → AreSound image frame root begin last
@@ -69,22 +69,6 @@ strip_none image frame root m low none = go (walk_index_of_indirect m) refl
     go w is =
         sound_then image frame root w (w + 1) (w + 1) (w + 1 + 84) (w + 85) refl (end w) (sound_one image frame root (Indirect m) w (w + 1) low (sym is) refl (inl none))
         (subst (λ (v : ℕ). AreSound image frame root (v + 1) (v + 1 + 84)) is (records_none image frame root m low none 84 (omega arith)))
-
--- the indirect block of a strip, well formed
-pub indirect_sound : (image : List ℕ) (frame : Frame) (root : Pointer) (m size : ℕ) (indirect : Pointer) (payload : List ℕ) → m < indirect_count → IsIndirectOf image root m indirect size
-    → OpensAt image frame (Indirect m) indirect payload → AreRecordForms m size payload → AreSound image frame root (walk_index_of_indirect m) (walk_index_of_indirect m + 1)
-indirect_sound image frame root m size indirect payload low i opens formed =
-    sound_one image frame root (Indirect m) (walk_index_of_indirect m) (walk_index_of_indirect m + 1) low refl refl
-    (sound_at image frame root (Indirect m) indirect payload i.at opens
-    (λ k within. subst (λ (s : ℕ). IsRecordPointerForm s (record_start m k) (pointer_in payload k)) (sym i.size_is) (formed k within)))
-
--- a pointer to a record that is not formed is a damage of its indirect block
-pub indirect_damage : (image : List ℕ) (frame : Frame) (root : Pointer) (m size : ℕ) (indirect : Pointer) (payload : List ℕ) (e : PoolError) → m < indirect_count → IsIndirectOf image root m indirect size
-    → (indirect ≡ no_pointer → ⊥) → OpensAt image frame (Indirect m) indirect payload → (AreRecordForms m size payload → ⊥) → e ≡ Damaged 4 indirect.address
-    → TellsDamage image frame root (walk_index_of_indirect m) e
-indirect_damage image frame root m size indirect payload e low i there opens not told =
-    formless_damage image frame root (Indirect m) (walk_index_of_indirect m) indirect payload e low refl i.at there opens
-    (λ formed. not (λ k within. subst (λ (s : ℕ). IsRecordPointerForm s (record_start m k) (pointer_in payload k)) i.size_is (formed k within))) told
 
 next_strip : (w j : ℕ) → w + 1 + 85 * (j + 1) ≡ w + 1 + 85 * j + 85
 next_strip w j = omega arith
@@ -187,19 +171,6 @@ levels_none image frame root n size top low t none =
     object_sound image frame root n low (inl (top_at image root n size top t ∙ none))
     (object_end image frame root n (sound_more image frame root (walk_index_of_object n + 1) (walk_index_of_object n + 1 + 85 * 0) (walk_index_of_object n + 1 + 85 * (0 + 84)) (strips_begin image frame root n)
     (strips_none image frame root n 0 low (λ j _ inside. top_none image root n size top low t none j inside) 84 (omega arith))))
-
--- the top, well formed
-pub top_sound : (image : List ℕ) (frame : Frame) (root : Pointer) (n size : ℕ) (top : Pointer) (payload : List ℕ) → IsTopOf image root n top size → OpensAt image frame (Top n) top payload
-    → AreStripForms size payload → IsSoundAt image frame root (Top n)
-top_sound image frame root n size top payload t opens formed =
-    sound_at image frame root (Top n) top payload (top_at image root n size top t) opens
-    (λ j within. subst (λ (s : ℕ). IsRecordPointerForm s (strip_start j) (pointer_in payload j)) (sym t.size_is) (formed j within))
-
-pub top_damage : (image : List ℕ) (frame : Frame) (root : Pointer) (n size : ℕ) (top : Pointer) (payload : List ℕ) (e : PoolError) → n < object_count → IsTopOf image root n top size
-    → (top ≡ no_pointer → ⊥) → OpensAt image frame (Top n) top payload → (AreStripForms size payload → ⊥) → e ≡ Damaged 7 top.address → TellsDamage image frame root (walk_index_of_object n) e
-top_damage image frame root n size top payload e low t there opens not told =
-    formless_damage image frame root (Top n) (walk_index_of_object n) top payload e low refl (top_at image root n size top t) there opens
-    (λ formed. not (λ j within. subst (λ (s : ℕ). IsRecordPointerForm s (strip_start j) (pointer_in payload j)) t.size_is (formed j within))) told
 
 -- a strip of an object of two levels, from its top
 pub strip_linked : (image : List ℕ) (root : Pointer) (n j size : ℕ) (payload : List ℕ) (pointer : Pointer) → n < object_count → j < pointer_count → AreStripsOf image root n payload size
@@ -359,11 +330,6 @@ pub directory_absent : (image : List ℕ) (frame : Frame) (root : Pointer) (d : 
     → AreSound image frame root (directory_index d) (directory_index (d + 1))
 directory_absent image frame root d low none =
     directory_sound image frame root d low (inl none) (subst (λ (i : ℕ). AreSound image frame root (objects_index d) i) (directory_end d) (objects_none image frame root d low none 63 (omega arith)))
-
--- the root, well formed
-pub root_sound : (image : List ℕ) (frame : Frame) (root : Pointer) (payload : List ℕ) → OpensAt image frame Root root payload → ((d : ℕ) → d < pointer_count → IsPointerForm (pointer_in payload d))
-    → AreSound image frame root 0 1
-root_sound image frame root payload opens formed = sound_one image frame root Root 0 1 (tt {0}) refl refl (sound_at image frame root Root root payload refl opens formed)
 
 pub directories_linked : (image : List ℕ) (frame : Frame) (root : Pointer) (payload : List ℕ) (directories : List Pointer) → OpensAt image frame Root root payload
     → ((d : ℕ) → d < pointer_count → pointer_of_list directories d ≡ pointer_in payload d) → AreDirectoriesOf image root directories

@@ -1,6 +1,7 @@
 pub mod FreeBlocks
 pub mod Loading
 pub mod Walking
+pub mod SoundBlocks
 pub mod ObjectPaths
 pub mod DamageLists
 pub mod Noted

@@ -8,6 +8,7 @@ mod objects;
 mod one_walk;
 mod paths;
 mod read_ahead;
+mod sound_blocks;
 mod walk;
 
 pub use damages::{BlockDamage, Examined, examine};

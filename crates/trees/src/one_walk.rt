@@ -30,19 +30,17 @@ use crate::damages::BlockDamage;
 use crate::marks::{take_block, take_named};
 use crate::objects::ObjectSink;
 use crate::read_ahead::ReadAhead;
+use crate::sound_blocks::sound_block;
 use crate::walk::{Loader, ToldObject};
-use base::{
-    ENTRY_COUNT, ObjectId, POINTER_COUNT, Pointer, PoolError, RECORD_SIZE, Told, are_zeros,
-};
-use checked_blocks::Kind;
-use contents::{BytesView, with_bytes, zero_bytes};
+use base::{ENTRY_COUNT, ObjectId, POINTER_COUNT, Pointer, PoolError, RECORD_SIZE, Told};
 use device_model::SectorDevice;
-use object_maps::{damaged, new_buffer, payload_of, read_block};
+use contents::{BytesView, with_bytes, zero_bytes};
+use object_maps::{new_buffer, payload_of};
 use space::FreeSet;
 use std::alloc::Global;
 use tree_blocks::{
-    BlockPlace, Entry, ObjectEntry, are_entries, are_records, are_strips, have_form, no_strips,
-    pointer_in, read_entry, read_pointers, record_number, strip_number, strip_of, with_strip,
+    BlockPlace, Entry, ObjectEntry, no_strips, pointer_in, read_entry, read_pointers,
+    record_number, strip_number, strip_of, with_strip,
 };
 
 /// What a walk makes of the damages that it comes to.
@@ -135,13 +133,10 @@ impl Loader<'_> {
         }
         let mut buffer = new_buffer();
         let place = BlockPlace::Root;
-        if let Err(error) = read_block(device, self.frame, place, root, None, &mut buffer) {
+        if let Err(error) = sound_block(device, self.frame, place, root, 0, &mut buffer) {
             return damages.note(error);
         }
         let payload = payload_of(&buffer);
-        if !have_form(payload) {
-            return damages.note(damaged(Kind::Root, root));
-        }
         read_pointers(payload, directories);
         self.walk_directories(device, directories, objects, free, damages)
     }
@@ -209,13 +204,10 @@ impl Loader<'_> {
     {
         let mut buffer = new_buffer();
         let place = BlockPlace::Directory(directory);
-        if let Err(error) = read_block(device, self.frame, place, pointer, None, &mut buffer) {
+        if let Err(error) = sound_block(device, self.frame, place, pointer, 0, &mut buffer) {
             return damages.note(error);
         }
         let payload = payload_of(&buffer);
-        if !are_entries(self.frame, payload) {
-            return damages.note(damaged(Kind::Directory, pointer));
-        }
         self.walk_entries(device, directory, payload, objects, free, damages)
     }
 
@@ -349,13 +341,10 @@ impl Loader<'_> {
         }
         let mut buffer = new_buffer();
         let place = BlockPlace::Top(ObjectId(number as u32));
-        if let Err(error) = read_block(device, self.frame, place, pointer, None, &mut buffer) {
+        if let Err(error) = sound_block(device, self.frame, place, pointer, size, &mut buffer) {
             return damages.note(error);
         }
         let payload = payload_of(&buffer);
-        if !are_strips(payload, size) {
-            return damages.note(damaged(Kind::Top, pointer));
-        }
         take_block(free, pointer.address);
         self.walk_strips(device, number, payload, size, object, free, damages)
     }
@@ -450,13 +439,10 @@ impl Loader<'_> {
         }
         let mut buffer = new_buffer();
         let place = BlockPlace::Indirect(number);
-        if let Err(error) = read_block(device, self.frame, place, indirect, None, &mut buffer) {
+        if let Err(error) = sound_block(device, self.frame, place, indirect, size, &mut buffer) {
             return damages.note(error);
         }
         let payload = payload_of(&buffer);
-        if !are_records(payload, number, size) {
-            return damages.note(damaged(Kind::Indirect, indirect));
-        }
         take_block(free, indirect.address);
         take_named(free, payload);
         object.strips = with_strip(&object.strips, index, *indirect, payload);
@@ -547,15 +533,20 @@ impl Loader<'_> {
             damages.old damages.new result) }
     {
         let mut buffer = new_buffer();
-        if let Err(error) = self.read_record(device, number, index, pointer, ahead, &mut buffer) {
+        if let Err(error) = self.sound_record(
+            device,
+            number,
+            index,
+            pointer,
+            ahead,
+            size,
+            &mut buffer,
+        ) {
             return damages.note(error);
         }
         let payload = payload_of(&buffer);
         let at = RECORD_SIZE * record_number(number, index);
         let count = (size - at).min(RECORD_SIZE);
-        if !are_zeros(&payload[count..]) {
-            return damages.note(damaged(Kind::Data, pointer));
-        }
         *bytes = with_bytes(bytes, at, &payload[..count]);
         Ok(true)
     }

@@ -11,15 +11,16 @@ ghost use Rattle.base.specs.tree.Places.{pointer_of};
 ghost use Rattle.base.specs.tree.Places.Place.{Directory, Root};
 ghost use Rattle.device_model.specs.Reading.{OnlyReads};
 ghost use Rattle.trees.specs.Loaders.{OnWalk};
-ghost use Rattle.object_maps.specs.BlockReads.{IsLoadRefusal};
+ghost use Rattle.object_maps.specs.Cached.{IsReadRefusal};
 ghost use Rattle.trees.specs.ObjectPaths.{IsEntryFound, IsSoundAbove, TellsAbove, TellsPlace};
 ghost use Rattle.tree_blocks.specs.Forms.{IsEntryOf};
 
+use crate::sound_blocks::sound_block;
 use base::{ENTRY_COUNT, ObjectId, Pointer, PoolError};
-use checked_blocks::{Frame, Kind};
+use checked_blocks::Frame;
 use device_model::SectorDevice;
-use object_maps::{damaged, new_buffer, payload_of, read_block};
-use tree_blocks::{BlockPlace, Entry, are_entries, have_form, pointer_in, read_entry};
+use object_maps::{new_buffer, payload_of};
+use tree_blocks::{BlockPlace, Entry, pointer_in, read_entry};
 
 /// What the tree under a root pointer has of an object: its directory's entry, if there is one. At most two blocks are
 /// read, the root and the directory. Whatever the other blocks hold, the entry is that of checked blocks.
@@ -35,7 +36,7 @@ pub fn find_entry<D: SectorDevice>(
     requires fits { block_address frame.now.blocks ≤ D.size device.old }
     requires number { object.0 < object_count }
     ensures reads { OnlyReads D.SectorDevice result device.old device.new }
-    ensures cause { IfErr result IsLoadRefusal }
+    ensures cause { IfErr result IsReadRefusal }
     ensures form { IfOk result (λ entry. IfSome entry (IsEntryOf frame.now)) }
     ensures found { IsTrue D.keeps_model → IfOk result
         (IsEntryFound (bytes_of (D.disk device.old).now) root object.0) }
@@ -62,7 +63,7 @@ fn find_directory<D: SectorDevice>(
     requires fits { block_address frame.now.blocks ≤ D.size device.old }
     requires in_range { directory < pointer_count }
     ensures reads { OnlyReads D.SectorDevice result device.old device.new }
-    ensures cause { IfErr result IsLoadRefusal }
+    ensures cause { IfErr result IsReadRefusal }
     ensures found { IsTrue D.keeps_model → (image : List ℕ)
         → bytes_of (D.disk device.old).now ≡ image
         → IfOk result (λ p. pointer_of image root.now (Directory directory) ≡ p) }
@@ -78,12 +79,8 @@ fn find_directory<D: SectorDevice>(
     }
     let mut buffer = new_buffer();
     let place = BlockPlace::Root;
-    read_block(device, frame, place, root, None, &mut buffer)?;
-    let payload = payload_of(&buffer);
-    if !have_form(payload) {
-        return Err(damaged(Kind::Root, root));
-    }
-    Ok(pointer_in(payload, directory))
+    sound_block(device, frame, place, root, 0, &mut buffer)?;
+    Ok(pointer_in(payload_of(&buffer), directory))
 }
 
 // The entry of an object in its directory, which this pointer names.
@@ -96,7 +93,7 @@ fn find_in_directory<D: SectorDevice>(
     requires fits { block_address frame.now.blocks ≤ D.size device.old }
     requires number { number < object_count }
     ensures reads { OnlyReads D.SectorDevice result device.old device.new }
-    ensures cause { IfErr result IsLoadRefusal }
+    ensures cause { IfErr result IsReadRefusal }
     ensures form { IfOk result (λ entry. IfSome entry (IsEntryOf frame.now)) }
     ensures found { OnWalk D.keeps_model (D.disk device.old) (λ image top.
         pointer_of image top (Directory (number / entry_count)) ≡ pointer.now
@@ -112,12 +109,8 @@ fn find_in_directory<D: SectorDevice>(
 {
     let mut buffer = new_buffer();
     let place = BlockPlace::Directory(number / ENTRY_COUNT);
-    read_block(device, frame, place, pointer, None, &mut buffer)?;
-    let payload = payload_of(&buffer);
-    if !are_entries(frame, payload) {
-        return Err(damaged(Kind::Directory, pointer));
-    }
-    let entry = read_entry(payload, number % ENTRY_COUNT);
+    sound_block(device, frame, place, pointer, 0, &mut buffer)?;
+    let entry = read_entry(payload_of(&buffer), number % ENTRY_COUNT);
     if entry.present == 0 {
         return Ok(None);
     }

@@ -7,20 +7,22 @@ ghost use Rattle.base.specs.formats.Blocks.{Frame};
 ghost use Rattle.base.specs.formats.Fields.{part};
 ghost use Rattle.base.specs.formats.Geometry.{IsBlockAddress, block_address, block_size};
 ghost use Rattle.base.specs.formats.Limits.{payload_size};
-ghost use Rattle.base.specs.tree.Places.{IsPlace, number_of_place};
+ghost use Rattle.base.specs.tree.Places.{IsPlace};
 ghost use Rattle.base.specs.tree.Places.Place.{Data};
 ghost use Rattle.base.specs.tree.Tree.{OpensAt};
 ghost use Rattle.device_model.specs.Reading.{OnlyReads};
-ghost use Rattle.object_maps.specs.Cached.{IsBlockRefusal};
-ghost use Rattle.object_maps.specs.BlockReads.{OnImage, IsLoadRefusal, IsReadable, TellsBlock};
+ghost use Rattle.object_maps.specs.Cached.{IsReadRefusal};
+ghost use Rattle.object_maps.specs.BlockReads.{OnImage, IsReadable};
 ghost use Rattle.checked_blocks.proofs.NamedBlocks.{IsNamed};
 ghost use Rattle.trees.specs.ReadAhead.{AreReadRecords, IsRead, IsReadAhead};
+ghost use Rattle.trees.specs.SoundBlocks.{IsFormed, TellsUnsound};
 
+use crate::sound_blocks::{check_form, sound_block};
 use crate::walk::Loader;
 use base::{BLOCK_SIZE, Pointer, PoolError};
 use checked_blocks::{Expected, Kind, ReadBlock, are_expected};
 use device_model::SectorDevice;
-use object_maps::{can_read, expected, new_buffer, read_block};
+use object_maps::{can_read, expected, new_buffer};
 use tree_blocks::{BlockPlace, pointer_in};
 
 // How many records are read at a time.
@@ -189,15 +191,15 @@ impl Loader<'_> {
         expected(self.frame, Kind::Data as u64, read.number, &read.pointer)
     }
 
-    // Reads the block of a record into the buffer, if it wasn't read ahead. Refused Damaged if it is none of this
-    // record.
-    pub(crate) fn read_record<D: SectorDevice>(
+    // Reads the block of a record into the buffer as `sound_block` does, or takes it from those that were read ahead.
+    pub(crate) fn sound_record<D: SectorDevice>(
         &self,
         device: &mut D,
         number: usize,
         index: usize,
         pointer: &Pointer,
         ahead: &ReadAhead,
+        size: usize,
         buffer: &mut [u8; BLOCK_SIZE],
     ) -> Result<(), PoolError>
         requires fits { block_address self.now.frame.now.blocks ≤ D.size device.old }
@@ -205,16 +207,17 @@ impl Loader<'_> {
         requires ahead { OnImage D.keeps_model (D.disk device.old)
             (λ image. IsReadAhead D.keeps_model image self.now.frame.now ahead.now) }
         ensures reads { OnlyReads D.SectorDevice result device.old device.new }
-        ensures cause { IfErr result IsLoadRefusal }
-        ensures read { IfErr result (IsBlockRefusal 5 pointer.now.address) }
+        ensures cause { IfErr result IsReadRefusal }
         ensures placed { OnOk result
             (IsBlockAddress self.now.frame.now.blocks pointer.now.address) }
+        ensures formed { OnOk result
+            (IsFormed self.now.frame.now size (Data number index) (drop 64 buffer.new)) }
         ensures opens { OnImage D.keeps_model (D.disk device.old) (λ image. OnOk result
             (IsTrue D.keeps_model → OpensAt image self.now.frame.now (Data number index)
             pointer.now (drop 64 buffer.new))) }
         ensures refused { IsTrue D.keeps_model → (image : List ℕ)
-            → bytes_of (D.disk device.old).now ≡ image → IfErr result (TellsBlock image
-            self.now.frame.now 5 (number_of_place (Data number index)) pointer.now) }
+            → bytes_of (D.disk device.old).now ≡ image → IfErr result (TellsUnsound image
+            self.now.frame.now size (Data number index) pointer.now) }
     {
         let place = BlockPlace::Data(number, index);
         let block_number = place.number();
@@ -223,8 +226,8 @@ impl Loader<'_> {
             && read.pointer == *pointer
         {
             *buffer = read.block;
-            return Ok(());
+            return check_form(self.frame, place, pointer, size, buffer);
         }
-        read_block(device, self.frame, place, pointer, None, buffer)
+        sound_block(device, self.frame, place, pointer, size, buffer)
     }
 }

@@ -4,8 +4,8 @@ use Rattle.base.specs.formats.Fields.{pointer_in}
 use Rattle.base.specs.tree.Places.Place.{Root}
 use Rattle.base.specs.tree.Tree.{OpensAt}
 use Rattle.base.proofs.tree.LevelPointers.{pointer_below-none}
-use Rattle.trees.proofs.ObjectPaths.{place_formless, place_missing}
-use Rattle.trees.proofs.WalkDamages.{below_block, sound_at}
+use Rattle.trees.proofs.SoundBlocks.{block_sound, tells_place}
+use Rattle.trees.proofs.WalkDamages.{below_block}
 use Rattle.trees.proofs.paths.find_directory.Goals as goal
 
 pub returns-then-is_none-clause-found : goal.returns-then-is_none-clause-found
@@ -14,30 +14,20 @@ returns-then-is_none-clause-found g c = λ keeps image shows. pointer_below-none
 pub returns-then-is_none-clause-sound : goal.returns-then-is_none-clause-sound
 returns-then-is_none-clause-sound g c = λ keeps image shows. inl (c.if-is_none.ensures.0 refl)
 
-pub returns-in_err-read_block-clause-damage : goal.returns-in_err-read_block-clause-damage
-returns-in_err-read_block-clause-damage g c = λ keeps image shows.
+pub returns-in_err-sound_block-clause-damage : goal.returns-in_err-sound_block-clause-damage
+returns-in_err-sound_block-clause-damage g c = λ keeps image shows.
     let p = err_from_is_err_and c.from_residual.result c.from_residual.ensures.1 in
-    rw (p.1, p.2) (place_missing image c.args.frame.now c.args.root.now Root c.args.root.now c.in_err-read_block.field-0.0 refl
-    (λ none. let no = c.if-is_none.ensures.1 none in cc) (c.in_err-read_block.ensures.refused keeps image shows))
-
-pub returns-then-not-have_form-clause-damage : goal.returns-then-not-have_form-clause-damage
-returns-then-not-have_form-clause-damage g c = λ keeps image shows.
-    let frame = c.args.frame.now in
-    let root = c.args.root.now in
-    let opens = subst (λ (l : List ℕ). OpensAt image frame Root root l) (sym c.payload_of-payload.ensures.payload) (c.in_ok-read_block.ensures.opens image (λ k. shows) keeps) in
-    place_formless image frame root Root root c.payload_of-payload.result.now c.damaged.result refl (λ none. let no = c.if-is_none.ensures.1 none in cc) opens
-    (λ formed. let no = c.if-not-have_form.ensures.1 formed in cc) c.damaged.ensures
+    rw (p.1, p.2) (tells_place image c.args.frame.now c.args.root.now Root c.args.root.now 0 refl refl c.in_err-sound_block.field-0.0
+    (λ none. let no = c.if-is_none.ensures.1 none in cc) (c.in_err-sound_block.ensures.refused keeps image shows))
 
 pub returns-clause-found : goal.returns-clause-found
 returns-clause-found g c = λ keeps image shows.
-    let frame = c.args.frame.now in
     let root = c.args.root.now in
-    let opens = subst (λ (l : List ℕ). OpensAt image frame Root root l) (sym c.payload_of-payload.ensures.payload) (c.in_ok-read_block.ensures.opens image (λ k. shows) keeps) in
-    below_block image frame 2 0 root c.payload_of-payload.result.now (λ (l : List ℕ). pointer_in l c.args.directory) opens ∙ sym c.pointer_in.ensures
+    let opens = subst (λ (l : List ℕ). OpensAt image c.args.frame.now Root root l) (sym c.payload_of.ensures.payload) (c.in_ok-sound_block.ensures.opens image (λ k. shows) keeps) in
+    below_block image c.args.frame.now 2 0 root c.payload_of.result.now (λ (l : List ℕ). pointer_in l c.args.directory) opens ∙ sym c.pointer_in.ensures
 
 pub returns-clause-sound : goal.returns-clause-sound
 returns-clause-sound g c = λ keeps image shows.
-    let frame = c.args.frame.now in
     let root = c.args.root.now in
-    let opens = subst (λ (l : List ℕ). OpensAt image frame Root root l) (sym c.payload_of-payload.ensures.payload) (c.in_ok-read_block.ensures.opens image (λ k. shows) keeps) in
-    sound_at image frame root Root root c.payload_of-payload.result.now refl opens (c.if-not-have_form.ensures.0 refl)
+    let read = c.in_ok-sound_block.ensures in
+    block_sound image c.args.frame.now root Root root 0 refl refl _ (read.opens image (λ k. shows) keeps) read.formed

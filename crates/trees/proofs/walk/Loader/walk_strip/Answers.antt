@@ -2,21 +2,21 @@ use Rattle.std.proofs.Common.{◌≡◌, ◌+◌, ◌∙◌, ℕ, List, refl, sy
 use Rattle.std.specs.Prelude.{IsTrue}
 use Rattle.base.specs.declared.pointer.Pointer.{Pointer}
 use Rattle.base.specs.disk.Disk.{Disk, bytes_of}
-use Rattle.base.specs.formats.Fields.{pointer_in}
-use Rattle.base.specs.tree.Damages.{IsRecordPointerForm}
-use Rattle.base.specs.tree.Places.{record_start, strip_of, walk_index_of_indirect}
+use Rattle.base.specs.tree.Places.{strip_of, walk_index_of_indirect}
 use Rattle.base.specs.tree.Places.Place.{Indirect}
 use Rattle.base.specs.tree.Tree.{OpensAt}
 use Rattle.trees.specs.Loading.{IsLoadedStrip}
+use Rattle.trees.specs.SoundBlocks.{IsFormed}
 use Rattle.tree_blocks.specs.Pointers.{payload_pointers, strip_in, told_record}
 use Rattle.tree_blocks.proofs.ToldStrips.{strip-is}
-use Rattle.trees.proofs.DamageLists.{formless_added, missing_added, no_damages}
+use Rattle.trees.proofs.DamageLists.{no_damages}
 use Rattle.trees.proofs.LoadedBlocks.{still_shows}
 use Rattle.trees.proofs.LoadedRecords.{some_address, strip_loaded}
-use Rattle.trees.proofs.NotedWalks.{found_behind, found_noted, if_ok_whole, if_ok_from}
+use Rattle.trees.proofs.NotedWalks.{found_behind, if_ok_from, if_ok_whole, place_found}
+use Rattle.trees.proofs.SoundBlocks.{block_sound, tells_place}
 use Rattle.trees.proofs.TakenStrips.{strip_taken}
-use Rattle.trees.proofs.WalkDamages.{missing_damage}
-use Rattle.trees.proofs.WalkParts.{indirect_damage, indirect_sound, records_linked, strip_none}
+use Rattle.trees.proofs.WalkOrder.{sound_one}
+use Rattle.trees.proofs.WalkParts.{records_linked, strip_none}
 use Rattle.trees.proofs.walk.Loader.walk_strip.Goals as goal
 
 pub returns-then-is_none-clause-found : goal.returns-then-is_none-clause-found
@@ -27,30 +27,15 @@ returns-then-is_none-clause-found g c = λ keeps image top shows indirect.
 pub returns-in-Err-clause-found : goal.returns-in-Err-clause-found
 returns-in-Err-clause-found g c = λ keeps image top shows indirect.
     let frame = c.args.self.now.frame.now in
-    let m : ℕ = c.args.number in
-    let refused = c.in-Err.ensures.refused keeps image shows in
-    found_noted image frame top (walk_index_of_indirect m) _ c.in-Err.error c.args.damages.now c.note.new.self c.note.result c.note.ensures.added
-    (missing_added image frame top (Indirect m) _ _ c.args.indirect.now c.in-Err.error c.args.damages.now.list.items c.note.new.self.list.items c.requires.in_range refl refl indirect.at
-    (λ none. let no = c.if-is_none.ensures.1 none in cc) refused)
-    c.note.ensures.told
-    (missing_damage image frame top (Indirect m) (walk_index_of_indirect m) c.args.indirect.now c.in-Err.error c.requires.in_range refl indirect.at
-    (λ none. let no = c.if-is_none.ensures.1 none in cc) refused)
+    let place = Indirect c.args.number in
+    place_found image frame top place (walk_index_of_indirect c.args.number) _ c.in-Err.error c.args.damages.now c.note.new.self c.note.result c.requires.in_range refl refl
+    (tells_place image frame top place c.args.indirect.now c.args.size indirect.at indirect.size_is c.in-Err.error (λ none. let no = c.if-is_none.ensures.1 none in cc)
+    (c.in-Err.ensures.refused keeps image shows))
+    c.note.ensures.added c.note.ensures.told
 
-pub returns-then-not-are_records-clause-found : goal.returns-then-not-are_records-clause-found
-returns-then-not-are_records-clause-found g c = λ keeps image top shows indirect.
-    let frame = c.args.self.now.frame.now in
-    let m : ℕ = c.args.number in
-    let payload : List ℕ = c.payload_of-payload.result.now in
-    let opens = subst (λ (l : List ℕ). OpensAt image frame (Indirect m) c.args.indirect.now l) (sym c.payload_of-payload.ensures.payload) (c.in_default.ensures.opens image (λ k. shows) keeps) in
-    let note = c.note-then-not-are_records in
-    found_noted image frame top (walk_index_of_indirect m) _ c.damaged.result c.args.damages.now note.new.self note.result note.ensures.added
-    (formless_added image frame top (Indirect m) _ _ c.args.indirect.now payload c.damaged.result c.args.damages.now.list.items note.new.self.list.items
-    c.requires.in_range refl refl indirect.at (λ none. let no = c.if-is_none.ensures.1 none in cc) opens
-    (λ formed. let no = c.if-not-are_records.ensures.1
-    (λ k within. subst (λ (s : ℕ). IsRecordPointerForm s (record_start m k) (pointer_in payload k)) indirect.size_is (formed k within)) in cc) c.damaged.ensures)
-    note.ensures.told
-    (indirect_damage image frame top m c.args.size c.args.indirect.now payload c.damaged.result c.requires.in_range indirect
-    (λ none. let no = c.if-is_none.ensures.1 none in cc) opens (λ formed. let no = c.if-not-are_records.ensures.1 formed in cc) c.damaged.ensures)
+pub walk_records-requires-clause-records : goal.walk_records-requires-clause-records
+walk_records-requires-clause-records g c =
+    subst (λ (l : List ℕ). IsFormed c.args.self.now.frame.now c.args.size (Indirect c.args.number) l) (sym c.payload_of-payload.ensures.payload) c.in_default.ensures.formed
 
 pub returns-clause-taken : goal.returns-clause-taken
 returns-clause-taken g c =
@@ -69,7 +54,7 @@ returns-clause-loaded g c = λ image shows.
     let frame = c.args.self.now.frame.now in
     let payload : List ℕ = c.payload_of-payload.result.now in
     let read = c.in_default.ensures in
-    let same = still_shows keeps_model (g.D.SectorDevice.disk c.args.device.now) (g.D.SectorDevice.disk c.read_block.new.device) image read.reads.disk shows in
+    let same = still_shows keeps_model (g.D.SectorDevice.disk c.args.device.now) (g.D.SectorDevice.disk c.sound_block.new.device) image read.reads.disk shows in
     let strips = c.with_strip-2.result.value in
     let told : strip_in strips (strip_of c.args.number) ≡ (c.args.indirect.now, payload_pointers payload) =
     subst (λ (j : ℕ). strip_in strips j ≡ (c.args.indirect.now, payload_pointers payload)) c.strip_of-index.ensures.index
@@ -83,11 +68,12 @@ returns-clause-loaded g c = λ image shows.
 pub returns-clause-found : goal.returns-clause-found
 returns-clause-found g c = λ keeps image top shows indirect.
     let frame = c.args.self.now.frame.now in
+    let place = Indirect c.args.number in
     let w : ℕ = walk_index_of_indirect c.args.number in
-    let payload : List ℕ = c.payload_of-payload.result.now in
-    let opens = subst (λ (l : List ℕ). OpensAt image frame (Indirect c.args.number) c.args.indirect.now l) (sym c.payload_of-payload.ensures.payload)
-    (c.in_default.ensures.opens image (λ k. shows) keeps) in
+    let read = c.in_default.ensures in
+    let opens = read.opens image (λ k. shows) keeps in
     found_behind image frame top w (w + 1) (w + 85) c.args.damages.now c.walk_records.new.damages c.walk_records.result (omega arith)
-    (indirect_sound image frame top c.args.number c.args.size c.args.indirect.now payload c.requires.in_range indirect opens (c.if-not-are_records.ensures.0 refl))
-    (c.walk_records.ensures.found keeps image top (ap (λ (d : Disk). bytes_of d.now) (c.in_default.ensures.reads.disk keeps) ∙ shows)
-    (records_linked image frame top c.args.number c.args.size c.args.indirect.now payload indirect opens))
+    (sound_one image frame top place w (w + 1) c.requires.in_range refl refl (block_sound image frame top place c.args.indirect.now c.args.size indirect.at indirect.size_is _ opens read.formed))
+    (c.walk_records.ensures.found keeps image top (ap (λ (d : Disk). bytes_of d.now) (read.reads.disk keeps) ∙ shows)
+    (records_linked image frame top c.args.number c.args.size c.args.indirect.now c.payload_of-payload.result.now indirect
+    (subst (λ (l : List ℕ). OpensAt image frame place c.args.indirect.now l) (sym c.payload_of-payload.ensures.payload) opens)))

@@ -4,12 +4,13 @@ use Rattle.base.specs.disk.Disk.{Disk, bytes_of}
 use Rattle.base.specs.tree.Places.Place.{Root}
 use Rattle.base.specs.tree.Tree.{OpensAt}
 use Rattle.trees.specs.Walking.{directory_index}
-use Rattle.trees.proofs.DamageLists.{formless_added, missing_added, no_damages, no_tree_sound}
+use Rattle.trees.proofs.DamageLists.{no_damages, no_tree_sound}
 use Rattle.trees.proofs.LoadedBlocks.{still_shows}
 use Rattle.trees.proofs.LoadedTrees.{no_tree, tree_loaded}
-use Rattle.trees.proofs.NotedWalks.{found_behind, found_noted, if_ok_whole}
-use Rattle.trees.proofs.WalkDamages.{formless_damage, missing_damage}
-use Rattle.trees.proofs.WalkParts.{directories_linked, root_sound}
+use Rattle.trees.proofs.NotedWalks.{found_behind, if_ok_whole, place_found}
+use Rattle.trees.proofs.SoundBlocks.{block_sound, tells_place}
+use Rattle.trees.proofs.WalkOrder.{sound_one}
+use Rattle.trees.proofs.WalkParts.{directories_linked}
 use Rattle.trees.proofs.walk.Loader.walk_tree.Goals as goal
 
 pub returns-then-is_none-clause-loaded : goal.returns-then-is_none-clause-loaded
@@ -30,33 +31,16 @@ pub returns-in-Err-clause-found : goal.returns-in-Err-clause-found
 returns-in-Err-clause-found g c = λ keeps image shows.
     let frame = c.args.self.now.frame.now in
     let root = c.args.root.now in
-    let refused = c.in-Err.ensures.refused keeps image shows in
-    found_noted image frame root 0 (directory_index 84) c.in-Err.error c.args.damages.now c.note.new.self c.note.result c.note.ensures.added
-    (missing_added image frame root Root 0 (directory_index 84) root c.in-Err.error c.args.damages.now.list.items c.note.new.self.list.items
-    (tt {0}) refl refl refl (λ none. let no = c.if-is_none.ensures.1 none in cc) refused)
-    c.note.ensures.told
-    (missing_damage image frame root Root 0 root c.in-Err.error (tt {0}) refl refl (λ none. let no = c.if-is_none.ensures.1 none in cc) refused)
-
-pub returns-then-not-have_form-clause-found : goal.returns-then-not-have_form-clause-found
-returns-then-not-have_form-clause-found g c = λ keeps image shows.
-    let frame = c.args.self.now.frame.now in
-    let root = c.args.root.now in
-    let payload : List ℕ = c.payload_of-payload.result.now in
-    let opens = subst (λ (l : List ℕ). OpensAt image frame Root root l) (sym c.payload_of-payload.ensures.payload) (c.in_default.ensures.opens image (λ k. shows) keeps) in
-    let note = c.note-then-not-have_form in
-    found_noted image frame root 0 (directory_index 84) c.damaged.result c.args.damages.now note.new.self note.result note.ensures.added
-    (formless_added image frame root Root 0 (directory_index 84) root payload c.damaged.result c.args.damages.now.list.items note.new.self.list.items
-    (tt {0}) refl refl refl (λ none. let no = c.if-is_none.ensures.1 none in cc) opens (λ formed. let no = c.if-not-have_form.ensures.1 formed in cc) c.damaged.ensures)
-    note.ensures.told
-    (formless_damage image frame root Root 0 root payload c.damaged.result (tt {0}) refl refl (λ none. let no = c.if-is_none.ensures.1 none in cc)
-    opens (λ formed. let no = c.if-not-have_form.ensures.1 formed in cc) c.damaged.ensures)
+    place_found image frame root Root 0 (directory_index 84) c.in-Err.error c.args.damages.now c.note.new.self c.note.result (tt {0}) refl refl
+    (tells_place image frame root Root root 0 refl refl c.in-Err.error (λ none. let no = c.if-is_none.ensures.1 none in cc) (c.in-Err.ensures.refused keeps image shows))
+    c.note.ensures.added c.note.ensures.told
 
 pub returns-clause-loaded : goal.returns-clause-loaded
 returns-clause-loaded g c = λ image shows.
     let keeps_model = g.D.SectorDevice.keeps_model in
     let frame = c.args.self.now.frame.now in
     let read = c.in_default.ensures in
-    let same = still_shows keeps_model (g.D.SectorDevice.disk c.args.device.now) (g.D.SectorDevice.disk c.read_block.new.device) image read.reads.disk shows in
+    let same = still_shows keeps_model (g.D.SectorDevice.disk c.args.device.now) (g.D.SectorDevice.disk c.sound_block.new.device) image read.reads.disk shows in
     let opens = λ (keeps : IsTrue keeps_model). subst (λ (l : List ℕ). OpensAt image frame Root c.args.root.now l) (sym c.payload_of-payload.ensures.payload)
     (read.opens image shows keeps) in
     if_ok_whole c.walk_directories.result
@@ -74,9 +58,10 @@ pub returns-clause-found : goal.returns-clause-found
 returns-clause-found g c = λ keeps image shows.
     let frame = c.args.self.now.frame.now in
     let root = c.args.root.now in
-    let payload : List ℕ = c.payload_of-payload.result.now in
-    let opens = subst (λ (l : List ℕ). OpensAt image frame Root root l) (sym c.payload_of-payload.ensures.payload) (c.in_default.ensures.opens image (λ k. shows) keeps) in
+    let read = c.in_default.ensures in
+    let opens = read.opens image (λ k. shows) keeps in
     found_behind image frame root 0 1 (directory_index 84) c.args.damages.now c.walk_directories.new.damages c.walk_directories.result (omega arith)
-    (root_sound image frame root payload opens (c.if-not-have_form.ensures.0 refl))
-    (c.walk_directories.ensures.found keeps image root (ap (λ (d : Disk). bytes_of d.now) (c.in_default.ensures.reads.disk keeps) ∙ shows)
-    (directories_linked image frame root payload c.read_pointers.new.pointers opens c.read_pointers.ensures))
+    (sound_one image frame root Root 0 1 (tt {0}) refl refl (block_sound image frame root Root root 0 refl refl _ opens read.formed))
+    (c.walk_directories.ensures.found keeps image root (ap (λ (d : Disk). bytes_of d.now) (read.reads.disk keeps) ∙ shows)
+    (directories_linked image frame root c.payload_of-payload.result.now c.read_pointers.new.pointers
+    (subst (λ (l : List ℕ). OpensAt image frame Root root l) (sym c.payload_of-payload.ensures.payload) opens) c.read_pointers.ensures))
