@@ -14,3 +14,4 @@ pub mod WalkParts
 pub mod DamageLists
 pub mod NotedWalks
 pub mod ObjectPaths
+pub mod EntryLists

@@ -3,6 +3,7 @@ pub mod Loading
 pub mod Walking
 pub mod SoundBlocks
 pub mod ObjectPaths
+pub mod EntryLists
 pub mod DamageLists
 pub mod Noted
 pub mod Loaders

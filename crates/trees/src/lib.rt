@@ -2,6 +2,7 @@
 #![tactic(auto)]
 
 mod damages;
+mod entry_lists;
 mod laws;
 mod marks;
 mod objects;
@@ -12,6 +13,7 @@ mod sound_blocks;
 mod walk;
 
 pub use damages::{BlockDamage, Examined, examine};
+pub use entry_lists::list_entries;
 pub use laws::trees_are_by_paths;
 pub use paths::find_entry;
 pub use walk::{Loaded, load, survey};
