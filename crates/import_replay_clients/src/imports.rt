@@ -84,7 +84,11 @@ fn a_limit_below_a_block_leaves_the_device<D: SectorDevice>(
     ensures refused { IsErr result }
     ensures unchanged { IfErr result (λ e. e.1 ≡ device) }
 {
-    import(alloc, device, Limits { dirty_max: 4_095, ..LIMITS }, 0)
+    let limits = Limits {
+        dirty_max: 4_095,
+        ..LIMITS
+    };
+    import(alloc, device, limits, 0)
 }
 
 // A cache of no blocks is refused, and the device comes back as it was.
@@ -95,7 +99,11 @@ fn a_cache_of_no_blocks_leaves_the_device<D: SectorDevice>(
     ensures refused { IsErr result }
     ensures unchanged { IfErr result (λ e. e.1 ≡ device) }
 {
-    import(alloc, device, Limits { cache_blocks: 0, ..LIMITS }, 0)
+    let limits = Limits {
+        cache_blocks: 0,
+        ..LIMITS
+    };
+    import(alloc, device, limits, 0)
 }
 
 // An import with a cache of two blocks has one, and none is in it.
@@ -106,7 +114,11 @@ fn a_cache_has_its_size<D: SectorDevice>(
     ensures size { IfOk result (λ i. i.cache.cap ≡ 2) }
     ensures empty { IfOk result (λ i. i.cache.entries ≡ []) }
 {
-    import(alloc, device, Limits { cache_blocks: 2, ..LIMITS }, 0)
+    let limits = Limits {
+        cache_blocks: 2,
+        ..LIMITS
+    };
+    import(alloc, device, limits, 0)
 }
 
 // An import that is told no number of cache blocks lets 256 stay in memory.

@@ -53,11 +53,7 @@ pub fn find_damages<D: SectorDevice>(alloc: Global, device: &mut D) -> Result<So
 }
 
 // What is found of a pool whose tree is whole: what an import would mount, or the one damage of its log.
-fn judge_log(
-    alloc: Global,
-    geometry: Geometry,
-    surveyed: Surveyed,
-) -> Result<Soundness, PoolError>
+fn judge_log(alloc: Global, geometry: Geometry, surveyed: Surveyed) -> Result<Soundness, PoolError>
     requires surveyed { (keeps : Bool) × (image : List ℕ)
         × IsSurveyedFor keeps image geometry surveyed }
     ensures found { (keeps : Bool) (image : List ℕ) → IsTrue keeps

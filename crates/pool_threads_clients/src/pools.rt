@@ -97,7 +97,11 @@ where
     D: Drop,
     ensures { IfSome result (λ p. (opening_view (shared_of p)).cache_room ≡ 2) }
 {
-    match Pool::open(alloc, device, Limits { cache_blocks: 2, ..LIMITS }, 7) {
+    let limits = Limits {
+        cache_blocks: 2,
+        ..LIMITS
+    };
+    match Pool::open(alloc, device, limits, 7) {
         Ok(pool) => Some(pool),
         Err(_) => None,
     }
