@@ -75,11 +75,6 @@ find_walk e (inl is) = subst IsWalkRefusal (sym is) tt
 find_walk e (inr (inl is)) = subst IsWalkRefusal (sym is) tt
 find_walk e (inr (inr is)) = subst IsWalkRefusal (sym is) tt
 
--- and a replay that is
-pub replay_walk : (e : PoolError) → IsReplayCause e → IsWalkRefusal e
-replay_walk e (inl is) = subst IsWalkRefusal (sym is) tt
-replay_walk e (inr (address, is)) = subst IsWalkRefusal (sym is) tt
-
 -- each damage of a list is one
 pub listed_log : (image : List ℕ) (list : List BlockDamage) → HasDamages image list → (d : BlockDamage) → Contains list d → d.kind ≡ 6 → IsChainDamaged image d.address
 listed_log image list (some, inl tree) d there log =

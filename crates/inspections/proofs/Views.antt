@@ -131,11 +131,6 @@ module _ (size : ℕ) (u : Uberblock) (name : List ℕ) (tree : Tree) (slots : L
         lengths = rw (tree_is, synced_is) held.lengths;
       }
 
--- the records were refused: for memory, or since one can't take place
-pub cause_walks : (e : PoolError) → IsReplayCause e → IsWalkRefusal e
-cause_walks e (inl is) = subst IsWalkRefusal (sym is) tt
-cause_walks e (inr (address, is)) = subst IsWalkRefusal (sym is) tt
-
 -- its blocks lie on the device
 pub fits : (size bytes : ℕ) (u : Uberblock) (v : View) → IsGeometry size → bytes ≡ size → v.frame ≡ frame_with u (block_count size) → FitsOn bytes v
 fits size bytes u v sized is framed = let end = blocks-end size sized in rw framed (omega (arith, end, is))

@@ -7,6 +7,7 @@ mod blocks;
 mod cached;
 mod changes;
 mod damages;
+mod entry_lists;
 mod forms;
 mod judged;
 mod loads;

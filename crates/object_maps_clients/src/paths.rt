@@ -1,7 +1,7 @@
 //! What callers rest on of an object's path: the entry that is found is that of the tree, and no damage elsewhere is
 //! told.
 
-ghost use Rattle.std.specs.Prelude.{◌≡◌, ◌≤◌, ◌⊎◌, List, ℕ, IfErr, IfOk, IsTrue, None, Some, length};
+ghost use Rattle.std.specs.Prelude.{◌≡◌, ◌≤◌, List, ℕ, IfErr, IfOk, IsTrue, None, Some, length};
 ghost use Rattle.std.specs.FinMap as finite;
 ghost use Rattle.std.specs.FinMap.{FinMap};
 ghost use Rattle.std.specs.Ordering.{nat_cmp};
@@ -49,7 +49,7 @@ fn a_damage_beside_a_path_is_not_told<D: SectorDevice>(
     requires keeps { IsTrue D.keeps_model }
     requires root { IsSoundAt (bytes_of (D.disk device.old).now) frame.now root Root }
     requires directory { IsSoundAt (bytes_of (D.disk device.old).now) frame.now root (Directory 2) }
-    ensures { IfErr result (λ e. (e ≡ error.NoMemory) ⊎ (e ≡ error.Read)) }
+    ensures { IfErr result (λ e. e ≡ error.Read) }
 {
     find_entry(device, frame, root, ObjectId(130))
 }

@@ -1,29 +1,25 @@
 -- A list of a tree's damages grows with the walk, part by part.
-use Rattle.std.proofs.Common.{◌≡◌, ◌≢◌, ℕ, ◌+◌, ◌-◌, ◌*◌, ◌/◌, ◌%◌, ◌<◌, ◌≤◌, zero, suc, min, List, [], ◌∷◌, ◌++◌, length, drop, replicate, map, refl, ap, sym, subst, ◌∙◌, arith, append_assoc, ◌⊎◌, inl, inr}
+use Rattle.std.proofs.Common.{◌≡◌, ◌≢◌, ℕ, ◌+◌, ◌-◌, ◌*◌, ◌/◌, ◌%◌, ◌<◌, ◌≤◌, zero, suc, List, [], ◌∷◌, ◌++◌, length, map, refl, ap, sym, subst, ◌∙◌, arith, append_assoc, ◌⊎◌, inl, inr}
 use Rattle.std.specs.Prelude.{Contains}
 use Rattle.std.proofs.Math.Nat.{le_refl}
 use Rattle.std.proofs.lemmas.Bool.{cases_eq, cases_lt}
 use Rattle.std.proofs.lemmas.List.{append-nil, map-append}
 use Rattle.std.proofs.lemmas.List.Elements.{Contains-append_left, Contains-append_right, Contains-append_cases}
-use Rattle.base.specs.declared.error.PoolError.{PoolError}
-use Rattle.base.specs.declared.error.PoolError.TheVariants.{Damaged}
 use Rattle.base.specs.declared.pointer.Pointer.{Pointer}
-use Rattle.base.specs.formats.Blocks.{Frame, Opens}
+use Rattle.base.specs.formats.Blocks.{Frame}
 use Rattle.base.specs.formats.Fields.{no_pointer, pointer_in}
-use Rattle.base.specs.formats.Limits.{entry_count, indirect_count, object_count, object_stride, pointer_count, record_size}
-use Rattle.base.specs.tree.Places.{Place, IsPlace, kind_of, levels_in, number_of_place, object_of_indirect, record_start, strip_number, strip_of, walk_index_of, walk_index_of_indirect, walk_index_of_object, pointer_below, pointer_of}
+use Rattle.base.specs.formats.Limits.{entry_count, indirect_count, object_count, object_stride, pointer_count}
+use Rattle.base.specs.tree.Places.{Place, IsPlace, kind_of, levels_in, object_of_indirect, strip_number, strip_of, walk_index_of, walk_index_of_indirect, walk_index_of_object, pointer_below, pointer_of}
 use Rattle.base.specs.tree.Places.Place.{Root, Directory, Top, Indirect, Data}
 use Rattle.base.proofs.tree.LevelPointers.{indirect-first, indirect-later}
 use Rattle.base.proofs.tree.Strips.{number-object, number-strip}
 use Rattle.base.proofs.tree.WalkIndexes.{same_place}
-use Rattle.base.specs.tree.Damages.{IsSoundAt, IsWellFormed, IsFirstDamage, length_in}
+use Rattle.base.specs.tree.Damages.{IsSoundAt, IsFirstDamage}
 use Rattle.trees.specs.declared.damages.BlockDamage.{BlockDamage}
-use Rattle.trees.specs.DamageLists.{LiesBelow, block_damage, StandRising, IsJudged, ListsDamages, walk_index_after, AreDamaged, AddsDamages, AddsTold}
-use Rattle.object_maps.specs.BlockReads.{TellsBlock}
-use Rattle.trees.specs.Walking.{AreSound, IsDataOf, directory_index, objects_index}
+use Rattle.trees.specs.DamageLists.{LiesBelow, block_damage, StandRising, IsJudged, ListsDamages, walk_index_after, AreDamaged, AddsDamages}
+use Rattle.trees.specs.Walking.{AreSound, directory_index, objects_index}
 use Rattle.trees.proofs.WalkOrder.{index-directory, index-object, index_of_strip, index_within, no_directory-object, no_directory-strip, no_top-strip, object-stride, same-object, same-strip, sound_one}
 use Rattle.trees.proofs.WalkParts.{first_index, no_top, short_rest}
-use Rattle.object_maps.proofs.BlockReads.{same-kind, same-address}
 
 behind_some : (w s : ℕ) → 0 < s → w + 1 ≤ w + s
 behind_some w s some = omega (arith, some)

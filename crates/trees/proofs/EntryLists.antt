@@ -11,8 +11,8 @@ use Rattle.std.proofs.lemmas.List.Elements.{Contains-append_cases, Contains-appe
 use Rattle.base.specs.declared.names.ObjectId.{ObjectId}
 use Rattle.base.specs.declared.pointer.Pointer.{Pointer}
 use Rattle.base.specs.formats.Blocks.{Frame}
-use Rattle.base.specs.formats.Fields.{entry_in, entry_length, entry_present, no_pointer, pointer_in}
-use Rattle.base.specs.formats.Limits.{entry_count, max_length, object_count, one_level_length, pointer_count}
+use Rattle.base.specs.formats.Fields.{entry_in, entry_present, no_pointer, pointer_in}
+use Rattle.base.specs.formats.Limits.{max_length, object_count, one_level_length}
 use Rattle.base.specs.tree.Damages.{IsSoundAt, length_in}
 use Rattle.base.specs.tree.Places.{directory_pointer, levels_in, pointer_of}
 use Rattle.base.specs.tree.Places.Place.{Directory, Root}
@@ -20,11 +20,11 @@ use Rattle.base.specs.tree.Tree.{IsEntry, IsTree, OpensAt}
 use Rattle.base.proofs.tree.LevelPointers.{number_below-none, pointer_below-none}
 use Rattle.base.proofs.tree.SoundTrees.{directory-at}
 use Rattle.tree_blocks.specs.ListedObjects.{AreWithin, listed}
-use Rattle.tree_blocks.proofs.ListedObjects.{listed_below, listed_below-all, listed_next}
+use Rattle.tree_blocks.proofs.ListedObjects.{listed_below, listed_below-all}
 use Rattle.tree_blocks.specs.declared.forms.Entry.{Entry}
 use Rattle.tree_blocks.specs.Forms.{IsEntryOf}
 use Rattle.trees.specs.EntryLists.{AreListed, AreRising, ListsEntries, NamesDirectories, length_of_entry, listed_to}
-use Rattle.trees.specs.ObjectPaths.{HasOnPath, IsOnPath}
+use Rattle.trees.specs.ObjectPaths.{IsOnPath}
 use Rattle.trees.specs.Walking.{IsObjectAt}
 use Rattle.trees.proofs.ObjectPaths.{tree_by_path}
 use Rattle.trees.proofs.WalkDamages.{below_block}

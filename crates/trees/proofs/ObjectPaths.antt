@@ -6,26 +6,21 @@ use Rattle.std.proofs.lemmas.Bool.{cases_eq}
 use Rattle.std.specs.Ordering.{nat_cmp}
 use Rattle.std.specs.FinMap as finite
 use Rattle.std.specs.FinMap.{FinMap}
-use Rattle.base.specs.declared.error.PoolError.{PoolError}
-use Rattle.base.specs.declared.error.PoolError.TheVariants.{Damaged}
 use Rattle.base.specs.declared.pointer.Pointer.{Pointer}
 use Rattle.base.specs.formats.Limits.{object_count, indirect_count, one_level_length, record_size, pointer_count, entry_count}
 use Rattle.base.specs.formats.Fields.{pointer_in, entry_in, entry_present, entry_length, entry_pointer, no_pointer}
 use Rattle.base.specs.formats.Blocks.{Frame, Opens}
-use Rattle.base.specs.tree.Damages.{IsWellFormed, length_in}
-use Rattle.base.specs.tree.Places.{Place, kind_of, number_of_place, pointer_of, object_of_indirect, strip_of, strip_number, record_number, directory_pointer, levels_in, below_pointer, top_pointer, indirect_pointer, data_pointer}
+use Rattle.base.specs.tree.Damages.{length_in}
+use Rattle.base.specs.tree.Places.{pointer_of, object_of_indirect, strip_of, strip_number, record_number, directory_pointer, levels_in, below_pointer, top_pointer, indirect_pointer, data_pointer}
 use Rattle.base.specs.tree.Places.Place.{Directory}
 use Rattle.base.specs.tree.Tree.{OpensAt, IsEntry, IsOneLevelObject, IsRecord, IsStrip, IsTree, IsTwoLevelObject}
 use Rattle.base.proofs.tree.LevelPointers.{zero_present, pointer_below-none, pointer_below-opens, number_below-none, number_below-opens, top-two, indirect-two, indirect-first, indirect-later}
 use Rattle.base.proofs.tree.SoundTrees.{directory-at}
 use Rattle.base.proofs.tree.Strips.{first-number, later-record, number-back, number-strip}
 use Rattle.tree_blocks.specs.declared.forms.Entry.{Entry}
-use Rattle.trees.specs.ObjectPaths.{IsOnPath, TellsPlace}
+use Rattle.trees.specs.ObjectPaths.{IsOnPath}
 use Rattle.trees.specs.Walking.{IsObjectAt}
-use Rattle.object_maps.specs.BlockReads.{TellsBlock}
 use Rattle.trees.proofs.LoadedRecords.{past_zeros}
-use Rattle.object_maps.proofs.BlockReads.{same-address, same-kind}
-use Rattle.trees.proofs.WalkDamages.{same_payload}
 use Rattle.trees.proofs.WalkParts.{entry_linked}
 
 module _ (image : List ℕ) (frame : Frame) (root : Pointer) where

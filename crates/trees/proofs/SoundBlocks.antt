@@ -1,23 +1,17 @@
 -- A block that was tested is sound at its place, or its refusal tells that it isn't.
-use Rattle.std.proofs.Common.{◌≡◌, ◌≢◌, ◌⊎◌, ◌-◌, ◌<◌, ◌≤◌, ℕ, List, [], min, length, drop, replicate, ap, sym, subst, ◌∙◌, arith, inl, inr}
-use Rattle.std.specs.Prelude.{◌↔◌}
-use Rattle.std.proofs.lemmas.Bool.{cases_lt}
-use Rattle.std.proofs.lemmas.List.{length-drop, drop_all}
+use Rattle.std.proofs.Common.{◌≡◌, ◌≢◌, ℕ, List, ap, sym, subst, ◌∙◌, inl, inr}
 use Rattle.base.specs.declared.error.PoolError.{PoolError}
-use Rattle.base.specs.declared.error.PoolError.TheVariants.{Damaged}
 use Rattle.base.specs.declared.pointer.Pointer.{Pointer}
 use Rattle.base.specs.formats.Blocks.{Frame}
 use Rattle.base.specs.formats.Fields.{no_pointer}
-use Rattle.base.specs.formats.Limits.{record_size}
 use Rattle.base.specs.tree.Damages.{IsSoundAt, IsWellFormed}
 use Rattle.base.specs.tree.Places.{Place, kind_of, number_of_place, pointer_of}
 use Rattle.base.specs.tree.Places.Place.{Root, Directory, Top, Indirect, Data}
 use Rattle.base.specs.tree.Tree.{OpensAt}
 use Rattle.object_maps.specs.BlockReads.{TellsBlock}
-use Rattle.object_maps.proofs.BlockReads.{same-address, same-kind}
 use Rattle.trees.specs.ObjectPaths.{TellsPlace}
 use Rattle.trees.specs.SoundBlocks.{IsFormed, TellsUnsound, length_at}
-use Rattle.trees.proofs.WalkDamages.{same_payload, sound_at}
+use Rattle.trees.proofs.WalkDamages.{sound_at}
 
 -- what is well formed by the length that the directory's entry gives
 module _ (image : List ℕ) (frame : Frame) (root : Pointer) where

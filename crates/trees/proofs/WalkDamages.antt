@@ -1,27 +1,14 @@
 -- When a block is sound, and when it is a damage.
-use Rattle.std.proofs.Common.{◌≡◌, ◌≢◌, ℕ, ◌+◌, ◌-◌, ◌*◌, ◌<◌, ◌≤◌, min, List, [], length, drop, replicate, refl, ap, sym, subst, ◌∙◌, arith, ◌⊎◌, inl, inr}
-use Rattle.std.proofs.lemmas.Bool.{cases_lt, ne_eqb}
-use Rattle.std.proofs.lemmas.List.{length-drop, drop_all}
-use Rattle.base.specs.declared.error.PoolError.{PoolError}
-use Rattle.base.specs.declared.error.PoolError.TheVariants.{Damaged}
+use Rattle.std.proofs.Common.{◌≡◌, ℕ, List, ap, sym, subst, ◌∙◌, arith, inr}
+use Rattle.std.proofs.lemmas.Bool.{ne_eqb}
 use Rattle.base.specs.declared.pointer.Pointer.{Pointer}
-use Rattle.base.specs.formats.Limits.{indirect_count, pointer_count, record_size}
-use Rattle.base.specs.formats.Fields.{no_pointer}
 use Rattle.base.specs.formats.Blocks.{Frame, Opens}
-use Rattle.base.specs.tree.Places.{Place, IsPlace, kind_of, number_of_place, object_of_indirect, record_start, walk_index_of, pointer_of, pointer_below}
-use Rattle.base.specs.tree.Places.Place.{Data}
-use Rattle.base.specs.tree.Damages.{IsSoundAt, IsWellFormed, length_in}
-use Rattle.object_maps.specs.BlockReads.{TellsBlock}
-use Rattle.object_maps.proofs.BlockReads.{same-address, same-kind}
-use Rattle.trees.specs.Walking.{AreSound, IsDamageFrom, IsDataOf, TellsDamage}
-use Rattle.trees.proofs.WalkOrder.{sound_none, sound_one}
+use Rattle.base.specs.tree.Places.{Place, kind_of, number_of_place, pointer_of, pointer_below}
+use Rattle.base.specs.tree.Damages.{IsSoundAt, IsWellFormed}
 
 -- a block has an address
 pub there : (image : List ℕ) (frame : Frame) (kind number : ℕ) (pointer : Pointer) (payload : List ℕ) → Opens image frame kind number pointer payload → (pointer.address ≡ 0) → ⊥
 there image frame kind number pointer payload opens zero = let a = opens.in_area in omega (arith, a.2, zero)
-
-pub same_payload : (image : List ℕ) (frame : Frame) (kind number : ℕ) (pointer : Pointer) (a b : List ℕ) → Opens image frame kind number pointer a → Opens image frame kind number pointer b → a ≡ b
-same_payload image frame kind number pointer a b x y = sym x.block.payload_is ∙ y.block.payload_is
 
 -- what a block's pointer gives of the places below it
 pub below_block : (image : List ℕ) (frame : Frame) (kind number : ℕ) (above : Pointer) (payload : List ℕ) (f : List ℕ → Pointer) → Opens image frame kind number above payload

@@ -6,14 +6,13 @@ use Rattle.base.specs.declared.pointer.Pointer.{Pointer}
 use Rattle.base.specs.formats.Limits.{object_count, indirect_count, object_stride, pointer_count, entry_count}
 use Rattle.base.specs.formats.Fields.{pointer_in, entry_in, entry_present, entry_length, entry_pointer, no_pointer}
 use Rattle.base.specs.formats.Blocks.{Frame, payload_at}
-use Rattle.base.specs.tree.Places.{walk_index_of_indirect, walk_index_of_object, pointer_of, pointer_below, number_below, directory_pointer, below_pointer, levels_in, top_pointer, strip_number, strip_of, strip_start, record_start}
+use Rattle.base.specs.tree.Places.{walk_index_of_indirect, walk_index_of_object, pointer_of, pointer_below, number_below, directory_pointer, below_pointer, levels_in, top_pointer, strip_number, strip_of}
 use Rattle.base.specs.tree.Places.Place.{Root, Directory, Top, Indirect, Data}
 use Rattle.base.specs.tree.Tree.{OpensAt}
-use Rattle.base.specs.tree.Damages.{IsPointerForm, IsSoundAt, IsRecordPointerForm, IsFirstDamage}
+use Rattle.base.specs.tree.Damages.{IsSoundAt, IsFirstDamage}
 use Rattle.base.proofs.tree.LevelPointers.{number_below-none, number_below-opens, top-one, top-two, indirect-two, indirect-first, indirect-later, zero_entry, zero_present}
 use Rattle.base.proofs.tree.Strips.{first-object, first-which, first-low, strip-low, strip-object, strip-which}
 use Rattle.tree_blocks.specs.declared.forms.Entry.{Entry}
-use Rattle.tree_blocks.specs.Forms.{AreRecordForms, AreStripForms}
 use Rattle.tree_blocks.specs.Pointers.{pointer_of_list}
 use Rattle.trees.specs.Walking.{AreSound, IsDamageFrom, TellsDamage, IsDataOf, AreDataOf, AreStripsOf, IsIndirectOf, IsObjectAt, IsTopOf, IsPayloadOf, AreDirectoriesOf, directory_index, objects_index}
 use Rattle.trees.proofs.WalkOrder.{object-stride, index_within, index_of_strip, index-directory, index-objects, sound_none, sound_more, sound_one, damage_behind}

@@ -5,8 +5,8 @@ use Rattle.base.specs.formats.Geometry.{IsGeometry}
 use Rattle.uberblocks.specs.Slots.{fields_of}
 use Rattle.import_replay.proofs.NextPools.{reason_of_replay}
 use Rattle.import_replay.proofs.Reasons.{passed_on}
-use Rattle.inspections.proofs.Refused.{memory_refused, size_refused, walk_refused}
-use Rattle.inspections.proofs.Views.{cause_walks, fits, is_view}
+use Rattle.inspections.proofs.Refused.{cause_walks, memory_refused, size_refused, walk_refused}
+use Rattle.inspections.proofs.Views.{fits, is_view}
 use Rattle.inspections.proofs.viewing.view_pool.Goals as goal
 
 pub returns-in_err-geometry-clause-refused : goal.returns-in_err-geometry-clause-refused

@@ -1,7 +1,6 @@
-use Rattle.std.proofs.Common.{◌≡◌, ◌+◌, ◌*◌, ◌∙◌, ℕ, List, ap, inl, refl, sym, subst, arith}
+use Rattle.std.proofs.Common.{◌≡◌, ◌+◌, ◌*◌, ◌∙◌, ℕ, ap, inl, refl, sym, subst, arith}
 use Rattle.std.proofs.lemmas.Result.{err_from_is_err_and}
 use Rattle.base.specs.disk.Disk.{Disk, bytes_of}
-use Rattle.base.specs.formats.Limits.{pointer_count}
 use Rattle.trees.specs.EntryLists.{AreListed, AreRising}
 use Rattle.trees.proofs.EntryLists.{directory_listed, listed_absent, none_listed_yet, rising_more}
 use Rattle.trees.proofs.entry_lists.list_directories.Goals as goal

@@ -1,4 +1,4 @@
-use Rattle.std.proofs.Common.{◌≡◌, ℕ, List, refl, subst, sym}
+use Rattle.std.proofs.Common.{ℕ, List, refl, subst, sym}
 use Rattle.std.proofs.lemmas.Result.{err_from_is_err_and}
 use Rattle.base.specs.tree.Places.Place.{Directory}
 use Rattle.base.specs.tree.Tree.{OpensAt}

@@ -1,9 +1,9 @@
-use Rattle.std.proofs.Common.{◌≡◌, ◌≢◌, ◌<◌, ◌∙◌, ℕ, List, [], length, true, false, ap, refl, sym, subst, arith}
+use Rattle.std.proofs.Common.{◌≡◌, ◌∙◌, ℕ, List, [], refl, subst, arith}
 use Rattle.std.specs.FinMap as finite
 use Rattle.std.proofs.lemmas.Result.{err_from_is_err_and}
 use Rattle.base.specs.disk.Disk.{bytes_of}
 use Rattle.space.specs.FreeSets.{HasAllOf}
-use Rattle.trees.specs.DamageLists.{AddsDamages, ListsDamages}
+use Rattle.trees.specs.DamageLists.{AddsDamages}
 use Rattle.trees.specs.Walking.{directory_index}
 use Rattle.trees.specs.declared.damages.BlockDamage.{BlockDamage}
 use Rattle.trees.proofs.DamageLists.{whole_list}
