@@ -9,7 +9,7 @@ pub mod Tried
 pub mod InTime
 pub mod CountedTries
 pub mod Firsts
-pub mod Limits
+pub mod Throttled
 pub mod Looked
 pub mod Ends
 pub mod SafeTurns

@@ -17,7 +17,7 @@ use Rattle.pool_threads.specs.declared.handle.Handle.{Handle}
 use Rattle.pool_threads.specs.Answers.{state_seen}
 use Rattle.pool_threads.specs.Handles.{moment_of}
 use Rattle.pool_threads.specs.Transacts.{IsForGood, IsLastTurn, IsRetried, TransactsAtLast, is_in_vain}
-use Rattle.pool_threads.proofs.Limits.{either}
+use Rattle.pool_threads.proofs.Throttled.{either}
 use Rattle.pool_threads.proofs.WaitsSeen.{syncs_without_space}
 use Rattle.transactions.specs.Open.{has_one_open}
 use Rattle.word_lock.specs.Seats.{seen}

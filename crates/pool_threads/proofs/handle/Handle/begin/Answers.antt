@@ -1,6 +1,6 @@
 use Rattle.base.proofs.steps.SeenStates.{begins_are_seen}
 use Rattle.pool_threads.proofs.Tried.{sees_last, sees_last_refusal}
-use Rattle.pool_threads.proofs.Limits.{ends_for_good}
+use Rattle.pool_threads.proofs.Throttled.{ends_for_good}
 use Rattle.pool_threads.specs.Answers.{state_seen}
 use Rattle.pool_threads.proofs.handle.Handle.begin.Goals as goal
 
