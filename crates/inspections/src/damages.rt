@@ -46,7 +46,8 @@ pub fn find_damages<D: SectorDevice>(alloc: Global, device: &mut D) -> Result<So
     ensures undamaged { IfErr result IsOfNoDamage }
 {
     let geometry = Geometry::of(device.sectors())?;
-    match examine_pool(alloc, device, geometry)? {
+    let examined = examine_pool(alloc, device, geometry)?;
+    match examined {
         ExaminedPool::Whole(surveyed) => judge_log(alloc, geometry, surveyed),
         ExaminedPool::Damaged(damages) => Ok(Soundness::Damaged(damages)),
     }

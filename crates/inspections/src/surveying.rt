@@ -83,7 +83,8 @@ pub(crate) fn examine_pool<D: SectorDevice>(
 {
     let found = find_pool(alloc, device, geometry)?;
     let frame = frame_of(&found.uberblock, geometry);
-    match examine(alloc, device, &frame, found.uberblock.root)? {
+    let examined = examine(alloc, device, &frame, found.uberblock.root)?;
+    match examined {
         Examined::Whole { tree, free } => {
             let logged = read_chain(alloc, device, geometry, &found)?;
             Ok(ExaminedPool::Whole(Surveyed {

@@ -21,7 +21,7 @@ pub replay-requires : goal.replay-requires
 replay-requires c =
     let s = c.args.surveyed in
     subst (λ (bs : List LogPiece). IsChainAllowed bs) (sym c.deref-2.ensures.value)
-    (All-weaker (IsSoundPiece (block_count c.args.geometry)) IsPieceAllowed (λ b is. is.allowed) s.logged.items c.requires.2.sound)
+    (All-weaker (IsSoundPiece (block_count c.args.geometry)) IsPieceAllowed (λ b is. is.allowed) s.logged.items c.requires.surveyed.2.sound)
 
 pub returns-clause-mounted : goal.returns-clause-mounted
 returns-clause-mounted c = λ keeps_model image keeps surveyed.
@@ -41,7 +41,7 @@ returns-clause-bounded c =
     let first : Outline = record { name = s.found.name; tree = s.tree } in
     let last : Outline = c.replay.new.self in
     let replayed = subst (λ (bs : List LogPiece). ReplaysOutline (records_above s.found.uberblock.group.0 bs) first (Ok c.in_ok-records.records) last) c.deref-2.ensures.value c.in_ok-records.ensures in
-    is_told_bounded c.requires.0 c.requires.1 c.args.geometry s c.requires.2 last c.in_ok-records.records replayed c.in_ok-lengths.lengths.items c.in_ok-lengths.ensures c.take_logged.new.free.free c.tell.result
+    is_told_bounded c.requires.surveyed.0 c.requires.surveyed.1 c.args.geometry s c.requires.surveyed.2 last c.in_ok-records.records replayed c.in_ok-lengths.lengths.items c.in_ok-lengths.ensures c.take_logged.new.free.free c.tell.result
     c.tell.ensures
 
 pub returns-in_err-records-clause-damaged : goal.returns-in_err-records-clause-damaged
