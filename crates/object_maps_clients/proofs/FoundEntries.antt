@@ -50,7 +50,7 @@ module _ (image : List ℕ) (frame : Frame) (root : Pointer) (above : IsSoundAt 
   none_told_above directories (Err e) (inl memory) tells = inl memory
   none_told_above directories (Err e) (inr (inl read)) tells = inr read
   none_told_above directories (Err e) (inr (inr (kind, address, is))) (inl tells) = absurd ((tells kind address is).2 above)
-  none_told_above directories (Err e) (inr (inr (kind, address, is))) (inr (sound, d, low, tells, before)) = absurd ((tells kind address is).2 (directories d low))
+  none_told_above directories (Err e) (inr (inr (kind, address, is))) (inr (sound, (d, low, tells, before))) = absurd ((tells kind address is).2 (directories d low))
 
   -- the first damaged directory is told
   module _ (before : (d : ℕ) → d < 5 → IsSoundAt image frame root (Directory d)) (damaged : IsSoundAt image frame root (Directory 5) → ⊥) where
@@ -70,7 +70,7 @@ module _ (image : List ℕ) (frame : Frame) (root : Pointer) (above : IsSoundAt 
     first_told e (inl memory) tells = inl memory
     first_told e (inr (inl read)) tells = inr (inl read)
     first_told e (inr (inr (kind, address, is))) (inl tells) = absurd ((tells kind address is).2 above)
-    first_told e (inr (inr (kind, address, is))) (inr (sound, d, low, tells, others)) = inr (inr (is_fifth e kind address d is tells others (cases_lt d 5)))
+    first_told e (inr (inr (kind, address, is))) (inr (sound, (d, low, tells, others))) = inr (inr (is_fifth e kind address d is tells others (cases_lt d 5)))
 
 -- the objects of a tree are as many as are listed
 pub as_many_listed : (objects : FinMap nat_cmp (List ℕ)) (list : List (ObjectId × ℕ)) → list ≡ listed objects → length list ≡ finite.len objects

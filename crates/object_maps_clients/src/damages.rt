@@ -124,7 +124,8 @@ fn a_tree_with_a_damaged_directory_is_not_whole<D: SectorDevice>(
         → ⊥ }
     ensures { IfOk result (λ l. l.items ≢ []) }
 {
-    match examine(alloc, device, frame, root)? {
+    let examined = examine(alloc, device, frame, root)?;
+    match examined {
         Examined::Whole { .. } => unreachable!(),
         Examined::Damaged(damages) => Ok(damages),
     }
@@ -143,7 +144,8 @@ fn a_sound_tree_is_whole<D: SectorDevice>(
         → IsSoundAt (bytes_of (D.disk device.old).now) frame.now root place }
     ensures { IfOk result (λ t. t.0.root ≡ root) }
 {
-    match examine(alloc, device, frame, root)? {
+    let examined = examine(alloc, device, frame, root)?;
+    match examined {
         Examined::Whole { tree, free } => Ok((tree, free)),
         Examined::Damaged(_) => unreachable!(),
     }
@@ -161,7 +163,8 @@ fn a_whole_tree_has_its_root<D: SectorDevice>(
     requires root { root.address ≡ 4194304 }
     ensures { IfOk result (λ o. IfSome o (λ free. is_free 0 free ≡ false)) }
 {
-    match examine(alloc, device, frame, root)? {
+    let examined = examine(alloc, device, frame, root)?;
+    match examined {
         Examined::Whole { free, .. } => Ok(Some(free)),
         Examined::Damaged(_) => Ok(None),
     }
@@ -183,7 +186,8 @@ fn a_whole_tree_has_the_lengths_of_entries<D: SectorDevice>(
         (directory_pointer (bytes_of (D.disk device.old).now) root 0).address) 7) ≡ 100 }
     ensures { IfOk result (λ o. IfSome o (λ t. lengths_of t 7 ≡ Some 100)) }
 {
-    match examine(alloc, device, frame, root)? {
+    let examined = examine(alloc, device, frame, root)?;
+    match examined {
         Examined::Whole { tree, .. } => Ok(Some(tree)),
         Examined::Damaged(_) => Ok(None),
     }

@@ -7,4 +7,4 @@ use Rattle.object_maps_clients.proofs.entry_lists.listed_numbers_rise.Goals as g
 pub returns : goal.returns
 returns g c =
     IfOk-weaker c.list_entries.result _ _
-    (λ l rising a b others is. let two = subst (λ (list : List (ObjectId × ℕ)). AreRising 0 list 5292) is rising in omega (arith, two.2.2.0)) c.list_entries.ensures.form
+    (λ l rising a b others is. let two = subst (λ (list : List (ObjectId × ℕ)). AreRising 0 list 5292) is rising in omega (arith, two.2.0)) c.list_entries.ensures.form
