@@ -4,3 +4,4 @@ pub mod FoundLabels
 pub mod MountedBytes
 pub mod OnlyRead
 pub mod PoolLines
+pub mod Undone

@@ -4,3 +4,4 @@ pub mod FoundDamages
 pub mod FoundLabels
 pub mod PoolLines
 pub mod Reads
+pub mod Undone

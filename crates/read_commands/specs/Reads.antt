@@ -24,6 +24,10 @@ abbrev pub IsMountedRange : List ℕ → ℕ → Range → List ℕ → Type 0
 IsMountedRange image object range bytes = (contents : Contents) × MountsTo image contents × IsSome (finite.get contents.objects object)
     × (bytes ≡ range_in contents.objects (record { 0 = object }) range)
 
+-- there are such bytes
+abbrev pub MountsRange : List ℕ → ℕ → Range → Type 0
+MountsRange image object range = (bytes : List ℕ) × IsMountedRange image object range bytes
+
 -- they were written after what the writer had, if that is known
 abbrev pub WritesMounted : List ℕ → ℕ → Range → Option (List ℕ) → Option (List ℕ) → Type 0
 WritesMounted image object range old new = (bytes : List ℕ) × IsMountedRange image object range bytes × Appends old new bytes

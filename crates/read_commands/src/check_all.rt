@@ -9,6 +9,7 @@ ghost use Rattle.device_model.specs.Reading.{OnlyReads};
 ghost use Rattle.read_commands.specs.FoundDamages.{AreFoundIn, ListsFindings, WritesFindings, all_status, damage_finding, finding_lines, found_lines};
 ghost use Rattle.read_commands.specs.FoundLabels.{AreLabelStates};
 ghost use Rattle.read_commands.specs.Checks.{IsCheckRefusal, StaysOpened};
+ghost use Rattle.read_commands.specs.Undone.{IsCheckRefused, IsLookFailure};
 ghost use Rattle.read_commands.specs.declared.checks.Finding.{Finding as ShownFinding};
 
 use crate::checks::Finding;
@@ -149,6 +150,8 @@ pub fn find_opened<D: SectorDevice + NotesRefusals>(
         → IfOk result (λ f. AreFoundIn (bytes_of (D.disk device).now) f.findings.items)) }
     ensures labels { IfOk opened.old (λ device. IsTrue D.keeps_model
         → IfOk result (λ f. AreLabelStates (bytes_of (D.disk device).now) f.labels)) }
+    ensures failed { IfErr result
+        (IsLookFailure (IsCheckRefused D.SectorDevice) opened.old opened.new) }
 {
     let device = match opened {
         Ok(device) => device,

@@ -6,6 +6,7 @@ ghost use Rattle.base.specs.formats.Geometry.{IsGeometry};
 ghost use Rattle.device_model.specs.Reading.{OnlyReads};
 ghost use Rattle.read_commands.specs.Checks.{IsCheckRefusal, IsFoundIn, StaysOpened, finding_status, found_of};
 ghost use Rattle.read_commands.specs.FoundDamages.{WritesFinding};
+ghost use Rattle.read_commands.specs.Undone.{IsCheckRefused, IsLookFailure};
 ghost use Rattle.read_commands.specs.declared.checks.Finding.{Finding as ShownFinding};
 
 use crate::failure::{Failure, NotesRefusals, report_failure};
@@ -151,6 +152,8 @@ pub fn check_opened<D: SectorDevice + NotesRefusals>(
         → result ≡ Err (Failure.Refused PoolError.BadGeometry)) }
     ensures found { IfOk opened.old (λ device. IsTrue D.keeps_model
         → IfOk result (IsFoundIn (bytes_of (D.disk device).now))) }
+    ensures failed { IfErr result
+        (IsLookFailure (IsCheckRefused D.SectorDevice) opened.old opened.new) }
 {
     let device = match opened {
         Ok(device) => device,

@@ -4,15 +4,17 @@
 mod all_checks;
 mod objects;
 
-ghost use Rattle.std.specs.Prelude.{◌≡◌, ◌≢◌, ◌⊎◌, ◌++◌, ℕ, List, [], IfOk, IsOk, IsTrue, Some, codes};
+ghost use Rattle.std.specs.Prelude.{◌≡◌, ◌≢◌, ◌⊎◌, ◌++◌, ℕ, List, [], IfErr, IfOk, IsOk, IsTrue, Some, codes};
 ghost use Rattle.base.specs.tree.Mount.{IsTreeDamaged, MountsTo};
 ghost use Rattle.base.specs.disk.Disk.{bytes_of};
+ghost use Rattle.base.specs.formats.Geometry.{IsGeometry};
 ghost use Rattle.base.specs.history.Contents.{Contents};
 ghost use Rattle.read_commands.specs.Checks.{IsFoundIn, finding_status};
+ghost use Rattle.read_commands.specs.Failures.{refusal_of};
 ghost use Rattle.read_commands.specs.declared.checks.Finding.{Finding as ShownFinding};
 ghost use Rattle.read_commands.specs.declared.checks.Finding.TheVariants.{Damaged};
 
-use crate::checks::{Finding, check_pool, run_check};
+use crate::checks::{Finding, check_opened, check_pool, run_check};
 use crate::failure::{Failure, NotesRefusals, report_failure};
 use crate::show::run_show;
 use base::PoolError;
@@ -63,6 +65,18 @@ fn a_pool_that_is_not_opened_shows_status_3<
     run_show(alloc, "tank.pool", BRIEF, &mut opened, out, errors)
 }
 
+// If the image mounts nothing, a show is neither done nor fails to write.
+fn a_pool_that_is_not_mounted_is_shown_with_status_1<
+    D: SectorDevice + NotesRefusals + Drop,
+    W: Write,
+    E: Write,
+>(alloc: Global, device: D, out: &mut W, errors: &mut E) -> u8
+    ensures { IsTrue D.keeps_model → ((contents : Contents)
+        → MountsTo (bytes_of (D.disk device).now) contents → ⊥) → result ≡ 1 }
+{
+    run_show(alloc, "tank.pool", BRIEF, &mut Ok(device), out, errors)
+}
+
 // The output had no bytes before.
 fn a_show_begins_with_the_name<D: SectorDevice + NotesRefusals + Drop, W: Write, E: Write>(
     alloc: Global,
@@ -94,6 +108,18 @@ fn a_show_writes_nothing<D: SectorDevice + NotesRefusals, W: Write, E: Write>(
     let mut opened = Ok(device);
     run_show(alloc, "tank.pool", BRIEF, &mut opened, out, errors);
     opened
+}
+
+// A pool may have a device of this size. Then a check is refused only so.
+fn a_check_is_refused_for_memory_or_a_read<D: SectorDevice + NotesRefusals + Drop>(
+    alloc: Global,
+    device: D,
+) -> Result<Finding, Failure>
+    requires { IsGeometry (D.size device) }
+    ensures { IfErr result (λ why. (refusal_of why ≡ Some PoolError.NoMemory)
+        ⊎ (refusal_of why ≡ Some PoolError.Read)) }
+{
+    check_opened(alloc, &mut Ok(device))
 }
 
 fn a_pool_that_is_not_opened_is_checked_with_status_3<

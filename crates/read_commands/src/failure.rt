@@ -89,7 +89,8 @@ impl Failure {
         }
     }
 
-    /// The failure of a command that a pool refused while it ran, if the pool was closed since, and gave its device back.
+    /// The failure of a command that a pool refused while it ran, if the pool was closed since, and gave its device
+    /// back.
     pub fn of_closed<D: NotesRefusals>(refusal: PoolError, device: &Option<D>) -> Failure
         ensures status { failure_status result ≡ 1 }
         ensures cause { IsFailureFor refusal result }

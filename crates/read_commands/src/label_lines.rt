@@ -8,6 +8,7 @@ ghost use Rattle.base.specs.formats.Geometry.{IsGeometry};
 ghost use Rattle.device_model.specs.Reading.{OnlyReads};
 ghost use Rattle.read_commands.specs.Checks.{IsCheckRefusal, StaysOpened};
 ghost use Rattle.read_commands.specs.FoundLabels.{IsReasonOf, IsStateOf, config_bytes_at, state_of};
+ghost use Rattle.read_commands.specs.Undone.{IsCheckRefused, IsLookFailure};
 ghost use Rattle.uberblocks.specs.Rings.{ring_size};
 
 use crate::failure::{Failure, NotesRefusals, report_failure};
@@ -66,6 +67,8 @@ pub fn read_opened_labels<D: SectorDevice + NotesRefusals>(
     ensures unusable { IfErr opened.old (λ cause. result ≡ Err (Failure.Unusable cause)) }
     ensures size { IfOk opened.old (λ device. (IsGeometry (D.size device) → ⊥)
         → result ≡ Err (Failure.Refused PoolError.BadGeometry)) }
+    ensures failed { IfErr result
+        (IsLookFailure (IsCheckRefused D.SectorDevice) opened.old opened.new) }
 {
     let device = match opened {
         Ok(device) => device,

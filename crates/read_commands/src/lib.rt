@@ -1,5 +1,5 @@
-//! The commands of the program `ztxg` that only read the pool in a file: it is shown, checked, or its objects and labels
-//! are listed, or the bytes of an object read. And why a command was not done, as each command reports it.
+//! The commands of the program `ztxg` that only read the pool in a file: it is shown, checked, or its objects and
+//! labels are listed, or the bytes of an object read. And why a command was not done, as each command reports it.
 //!
 //! The crate knows no command line: each command is given its arguments by a type of `command_arguments`.
 #![tactic(auto)]

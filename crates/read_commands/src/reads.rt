@@ -6,6 +6,7 @@ ghost use Rattle.base.specs.disk.Disk.{bytes_of};
 ghost use Rattle.device_model.specs.Reading.{OnlyReads};
 ghost use Rattle.read_commands.specs.Checks.{StaysOpened};
 ghost use Rattle.read_commands.specs.Reads.{IsMountedRange, IsReadersRefusal, WritesMounted, asked_range};
+ghost use Rattle.read_commands.specs.Undone.{GetsUndone, IsLookFailure, IsReadRefused};
 
 use crate::bad_number::BadNumber;
 use crate::failure::{Failure, NotesRefusals, report_failure};
@@ -39,6 +40,8 @@ pub fn run_get<D: SectorDevice + NotesRefusals, W: Write, E: Write>(
     ensures written { result.0 ≡ 0 → IfOk opened (λ device. IsTrue D.keeps_model
         → WritesMounted (bytes_of (D.disk device).now) arguments.entry.object
         (asked_range arguments.entry) (W.contents out.old) (W.contents out.new)) }
+    ensures undone { result.0 ≢ 0 → GetsUndone D.SectorDevice arguments.entry.object
+        (asked_range arguments.entry) opened result.1 result.0 }
     ensures unprinted { result.0 ≡ 1 → W.contents out.new ≡ W.contents out.old }
     ensures range { result.0 ≤ 3 }
     ensures no_usage { result.0 ≢ 2 }
@@ -81,6 +84,7 @@ fn get_bytes<D: SectorDevice + NotesRefusals>(
     ensures bytes { IfOk opened (λ device. IsTrue D.keeps_model → IfOk result.0
         (IsMountedRange (bytes_of (D.disk device).now) arguments.entry.object
         (asked_range arguments.entry))) }
+    ensures failed { IfErr result.0 (IsLookFailure IsReadRefused opened result.1) }
 {
     let device = match opened {
         Ok(device) => device,

@@ -4,8 +4,10 @@ ghost use Rattle.std.specs.Io.KnownBytes.{Appends};
 ghost use Rattle.std.specs.Prelude.{◌≡◌, ◌≢◌, ◌≤◌, Err, IfErr, IfOk, IsErr, IsTrue, OnOk};
 ghost use Rattle.base.specs.disk.Disk.{bytes_of};
 ghost use Rattle.inspections.specs.Inspections.{AgreesWithImports, IsInspectionOf};
+ghost use Rattle.inspections.specs.Refused.{IsInspectionRefused};
 ghost use Rattle.read_commands.specs.Checks.{StaysOpened};
 ghost use Rattle.read_commands.specs.PoolLines.{WritesInspected, listed_lines, number_lines, object_lines, shown_lines};
+ghost use Rattle.read_commands.specs.Undone.{InspectsUndone, IsLookFailure};
 
 use crate::failure::{Failure, NotesRefusals, report_failure};
 use base::ObjectId;
@@ -34,6 +36,7 @@ pub fn run_show<D: SectorDevice + NotesRefusals, W: Write, E: Write>(
     ensures shown { result ≡ 0 → IfOk opened.old (λ device.
         WritesInspected (IsTrue D.keeps_model) (bytes_of (D.disk device).now) shown_lines
         (W.contents out.old) (W.contents out.new)) }
+    ensures undone { result ≢ 0 → InspectsUndone D.SectorDevice opened.old opened.new result }
     ensures unprinted { result ≡ 1 → W.contents out.new ≡ W.contents out.old }
     ensures range { result ≤ 3 }
     ensures no_usage { result ≢ 2 }
@@ -65,6 +68,7 @@ pub fn run_list<D: SectorDevice + NotesRefusals, W: Write, E: Write>(
     ensures listed { result ≡ 0 → IfOk opened.old (λ device.
         WritesInspected (IsTrue D.keeps_model) (bytes_of (D.disk device).now) listed_lines
         (W.contents out.old) (W.contents out.new)) }
+    ensures undone { result ≢ 0 → InspectsUndone D.SectorDevice opened.old opened.new result }
     ensures unprinted { result ≡ 1 → W.contents out.new ≡ W.contents out.old }
     ensures range { result ≤ 3 }
     ensures no_usage { result ≢ 2 }
@@ -93,6 +97,8 @@ pub fn inspect_opened<D: SectorDevice + NotesRefusals>(
         → IfOk result (IsInspectionOf (bytes_of (D.disk device).now))) }
     ensures agrees { IfOk opened.old (λ device. IsTrue D.keeps_model
         → IfOk result (AgreesWithImports (bytes_of (D.disk device).now))) }
+    ensures failed { IfErr result
+        (IsLookFailure (IsInspectionRefused D.SectorDevice) opened.old opened.new) }
 {
     let device = match opened {
         Ok(device) => device,

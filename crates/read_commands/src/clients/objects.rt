@@ -1,6 +1,6 @@
 //! What callers rely on of the commands that read objects and labels.
 
-ghost use Rattle.std.specs.Prelude.{◌≡◌, ◌≢◌, [], ◌∷◌, IfOk, IsOk, IsTrue, None, Ok, Some, codes, length};
+ghost use Rattle.std.specs.Prelude.{◌≡◌, [], ◌∷◌, IfOk, IsOk, IsTrue, None, Ok, Some, codes, length};
 ghost use Rattle.std.specs.FinMap as finite;
 ghost use Rattle.base.specs.tree.Mount.{MountsTo};
 ghost use Rattle.base.specs.disk.Disk.{bytes_of};
@@ -40,16 +40,15 @@ fn a_get_writes_the_bytes_that_the_image_mounts<
     status
 }
 
-// If object 7 isn't in the contents that the image mounts, the status is not 0.
-fn a_get_finds_its_object<D: SectorDevice + NotesRefusals + Drop, W: Write, E: Write>(
-    alloc: Global,
-    device: D,
-    out: &mut W,
-    errors: &mut E,
-) -> u8
+// If object 7 isn't in the contents that the image mounts, a get is neither done nor fails to write.
+fn an_object_that_is_missing_is_got_with_status_1<
+    D: SectorDevice + NotesRefusals + Drop,
+    W: Write,
+    E: Write,
+>(alloc: Global, device: D, out: &mut W, errors: &mut E) -> u8
     ensures { IsTrue D.keeps_model → (contents : Contents)
         → MountsTo (bytes_of (D.disk device).now) contents
-        → finite.get contents.objects 7 ≡ None → result ≢ 0 }
+        → finite.get contents.objects 7 ≡ None → result ≡ 1 }
 {
     let (status, _) = run_get(alloc, TWO_BYTES, BRIEF, Ok(device), out, errors);
     status

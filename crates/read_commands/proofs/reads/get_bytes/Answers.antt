@@ -4,6 +4,8 @@ use Rattle.base.specs.disk.Calls.{with_refusal}
 use Rattle.base.specs.disk.Disk.{bytes_of}
 use Rattle.read_commands.specs.Reads.{IsMountedRange, asked_range}
 use Rattle.read_commands.proofs.OnlyRead.{range_of_opened, stays_opened}
+use Rattle.read_commands.specs.Undone.{IsReadRefused}
+use Rattle.read_commands.proofs.Undone.{look_refused}
 use Rattle.read_commands.proofs.reads.get_bytes.Goals as goal
 
 pub returns-in-Ok-read-clause-bytes : goal.returns-in-Ok-read-clause-bytes
@@ -25,3 +27,8 @@ returns-in-Err-read-clause-only_read g c =
     (ap D.size back ∙ reads.size ∙ ap D.size had)
     (λ keeps. ap D.disk back ∙ reads.disk keeps ∙ ap D.disk had)
     (ap D.refused back ∙ reads.count ∙ ap (λ device. with_refusal c.in-Err-read.refusal (D.refused device)) had)
+
+pub returns-in-Err-read-clause-failed : goal.returns-in-Err-read-clause-failed
+returns-in-Err-read-clause-failed g c =
+    look_refused IsReadRefused c.args.opened c.in-Ok.device c.into_parts-device.result.0 c.in-Err-read.refusal c.for_number-failure.result c.in-Ok.is c.in-Err-read.ensures.refused
+    (c.for_number-failure.ensures.cause c.in-Err-read.refusal c.of_pool.ensures.cause)

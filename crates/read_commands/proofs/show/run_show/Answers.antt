@@ -1,8 +1,18 @@
+use Rattle.std.proofs.Common.{inl, inr, ap, ◌∙◌}
 use Rattle.read_commands.specs.PoolLines.{shown_lines}
 use Rattle.read_commands.proofs.PoolLines.{inspected_written}
+use Rattle.read_commands.specs.Failures.{failure_status}
+use Rattle.read_commands.proofs.Undone.{whole_found}
 use Rattle.read_commands.proofs.show.run_show.Goals as goal
 
 pub returns-in-Ok-write_inspected-clause-shown : goal.returns-in-Ok-write_inspected-clause-shown
 returns-in-Ok-write_inspected-clause-shown g c = λ zero.
     inspected_written g.D.SectorDevice shown_lines c.in-Ok.inspected _ _ c.in-Ok-write_inspected.ensures.written
     c.args.opened.now c.in-Ok.ensures.mounted c.in-Ok.ensures.agrees
+
+pub returns-in-Err-clause-undone : goal.returns-in-Err-clause-undone
+returns-in-Err-clause-undone g c = λ some. inl (c.in-Err.failure, c.in-Err.ensures.failed, c.report_failure.ensures.status)
+
+pub returns-clause-undone : goal.returns-clause-undone
+returns-clause-undone g c = λ some.
+    inr (c.report_failure-in-Err-write_inspected.ensures.status ∙ ap failure_status c.in-Err-write_inspected.ensures.failed, whole_found g.D.SectorDevice c.args.opened.now c.in-Ok.inspected c.in-Ok.ensures.mounted)

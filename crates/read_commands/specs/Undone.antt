@@ -1,0 +1,50 @@
+-- How a command that only reads ends if it is not done: why, and with which status.
+use Rattle.std.specs.Prelude.{ℕ, ◌≡◌, ◌⊎◌, IfOk, IsTrue, List, Result, Ok, Err}
+use Rattle.base.specs.declared.error.PoolError.{PoolError}
+use Rattle.base.specs.declared.range.Range.{Range}
+use Rattle.base.specs.disk.Disk.{bytes_of}
+use Rattle.device_model.specs.declared.device.SectorDevice.{Ghosts}
+use Rattle.device_model.specs.declared.held_file.FileRefusal.{FileRefusal}
+use Rattle.inspections.specs.Refused.{IsInspectionRefused}
+use Rattle.read_commands.specs.Checks.{IsCheckRefusal, MountsWhole}
+use Rattle.read_commands.specs.Failures.{IsFailureFor, failure_status}
+use Rattle.read_commands.specs.Reads.{IsReadersRefusal, MountsRange}
+use Rattle.read_commands.specs.declared.failure.Failure.{Failure}
+use Rattle.read_commands.specs.declared.failure.Failure.TheVariants.{Unusable}
+
+-- a look at what was opened failed so: the file was not opened, or the engine refused the look of the device
+abbrev pub IsLookFailure : {Dev : Type 0} → (Dev → Dev → PoolError → Type 0) → Result Dev FileRefusal → Result Dev FileRefusal → Failure → Type 0
+IsLookFailure R (Err cause) after why = why ≡ Unusable cause
+IsLookFailure R (Ok old) (Ok new) why = (e : PoolError) × R old new e × IsFailureFor e why
+IsLookFailure R (Ok old) (Err cause) why = ⊥
+
+-- A command ended with this status, since its look failed, or since its output alone was not written. Then this is so of
+-- the device.
+abbrev pub EndsUndone : {Dev : Type 0} → (Dev → Dev → PoolError → Type 0) → (Dev → Type 0) → Result Dev FileRefusal → Result Dev FileRefusal → ℕ → Type 0
+EndsUndone R F opened after status = ((why : Failure) × IsLookFailure R opened after why × (status ≡ failure_status why)) ⊎ ((status ≡ 3) × IfOk opened F)
+
+-- the engine refused to read for this, be it of the device what it may
+abbrev pub IsReadRefused : {Dev : Type 0} → Dev → Dev → PoolError → Type 0
+IsReadRefused old new e = IsReadersRefusal e
+
+module _ {Dev : Type 0} (D : Ghosts Dev) where
+  -- a check of a device was refused so
+  abbrev pub IsCheckRefused : Dev → Dev → PoolError → Type 0
+  IsCheckRefused old new e = IsCheckRefusal (D.size old) e
+
+  -- the device has a whole pool, if it keeps the model; and there is such a range of an object in it
+  abbrev pub HasWholePool : Dev → Type 0
+  HasWholePool device = IsTrue D.keeps_model → MountsWhole (bytes_of (D.disk device).now)
+
+  abbrev pub HasRange : ℕ → Range → Dev → Type 0
+  HasRange object range device = IsTrue D.keeps_model → MountsRange (bytes_of (D.disk device).now) object range
+
+  -- a command that writes what an inspection finds ended so, one that lists names, and one that writes a range
+  abbrev pub InspectsUndone : Result Dev FileRefusal → Result Dev FileRefusal → ℕ → Type 0
+  InspectsUndone opened after status = EndsUndone (IsInspectionRefused D) HasWholePool opened after status
+
+  abbrev pub ListsUndone : Result Dev FileRefusal → Result Dev FileRefusal → ℕ → Type 0
+  ListsUndone opened after status = EndsUndone IsReadRefused HasWholePool opened after status
+
+  abbrev pub GetsUndone : ℕ → Range → Result Dev FileRefusal → Result Dev FileRefusal → ℕ → Type 0
+  GetsUndone object range opened after status = EndsUndone IsReadRefused (HasRange object range) opened after status
