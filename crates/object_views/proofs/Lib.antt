@@ -1,0 +1,4 @@
+pub mod OwnRecords
+pub mod OwnLaws
+pub mod ObjectViews
+pub mod SeenBytes

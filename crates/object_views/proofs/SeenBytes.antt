@@ -1,0 +1,119 @@
+-- What reads of a view give of an object, from the bytes of the object below its own records.
+use Rattle.std.proofs.Common.{◌≡◌, ◌≢◌, ℕ, ◌+◌, ◌-◌, ◌*◌, ◌/◌, ◌%◌, ◌<◌, ◌≤◌, ◌⊎◌, inl, inr, true, false, List, [], length, get_or, Option, Some, None, refl, sym, ap, subst, ◌∙◌, arith, min, take, drop, length-take, length-drop, get_or-take, get_or-drop}
+use Rattle.std.specs.Prelude.{IfSome, is_some, not, option_map, unwrap_or, ◌||◌}
+use Rattle.std.specs.FinMap as finite
+use Rattle.std.specs.FinMap.{FinMap}
+use Rattle.std.specs.Ordering.{nat_cmp}
+use Rattle.std.proofs.lemmas.Bool.{cases_Bool, cases_lt, false≢true}
+use Rattle.std.proofs.lemmas.List.{ext_get_or}
+use Rattle.std.proofs.Math.Bool.{or-true}
+use Rattle.base.specs.declared.error.PoolError.{PoolError}
+use Rattle.base.specs.declared.pointer.Pointer.{Pointer}
+use Rattle.base.specs.declared.range.Range.{Range}
+use Rattle.base.specs.formats.Fields.{part}
+use Rattle.base.specs.formats.Limits.{object_count}
+use Rattle.base.specs.history.Contents.{stored}
+use Rattle.base.proofs.history.Objects.{get-stored_same}
+use Rattle.tree_blocks.specs.declared.forms.Entry.{Entry}
+use Rattle.tree_blocks.specs.Sources.{AreBytesFrom, object_bytes}
+use Rattle.object_paths.specs.ReadPaths.{IsSoundObject, IsSoundRecord, TellsRecord}
+use Rattle.extents.specs.declared.basis.Basis.{Basis}
+use Rattle.extents.specs.declared.basis.Basis.TheVariants.{Cut, Gone, Grown, Made}
+use Rattle.extents.specs.LaidReads.{LaysOnBelow}
+use Rattle.extents.specs.Objects.{HidesBelow}
+use Rattle.extents.specs.Patches.{is_shown, laid_over, length_over, patched}
+use Rattle.extents.specs.Tables.{patches_of}
+use Rattle.extents.proofs.LaidObjects.{get-laid_over}
+use Rattle.extents.proofs.PatchedObjects.{patched_length}
+use Rattle.object_reads.proofs.ReadParts.{part_read}
+use Rattle.object_views.specs.ObjectViews.{AreCheckedBytes, AreSeenBytes, AreStoredBytes, IsStoredEntry, TellsBetween, bytes_of_range, is_own, length_of_entry, length_seen, object_of, patch_seen, seen_over}
+use Rattle.object_views.specs.declared.view.ObjectView.{ObjectView}
+use Rattle.object_views.proofs.ObjectViews.{size_below}
+
+-- an object that is there over none has no byte of one below
+made_alone : (basis : Basis) (i : ℕ) → is_some (length_over basis None) ≡ true → is_shown basis i ≡ false
+made_alone (Grown end) i there = absurd (false≢true there)
+made_alone (Cut kept size) i there = absurd (false≢true there)
+made_alone (Made size) i there = refl
+made_alone Gone i there = refl
+
+some_of : (o : Option (List ℕ)) → is_some (option_map length o) ≡ true → is_some o ≡ true
+some_of (Some bytes) there = refl
+some_of None there = there
+
+module _ (image : List ℕ) (root : Pointer) (v : ObjectView) (low : object_of v < object_count) (entry : IsStoredEntry image root (object_of v) v.stored) where
+  -- what is seen over an object of the tree has the length that is seen
+  pub seen_length : (below : Option (List ℕ)) → IsSoundObject image v.frame root (object_of v) below → option_map length (seen_over v below) ≡ length_seen v
+  seen_length below is =
+      patched_length (patch_seen v) below ∙ ap (length_over (patch_seen v).basis) (size_below image v.frame root (object_of v) v.stored below low entry is)
+
+  module _ (there : is_some (length_seen v) ≡ true) (offset : ℕ) where
+    seen_there : (below : Option (List ℕ)) → IsSoundObject image v.frame root (object_of v) below → is_some (seen_over v below) ≡ true
+    seen_there below is = some_of (seen_over v below) (ap is_some (seen_length below is) ∙ there)
+
+    -- the own records over bytes of the object in the tree, or over any that they hide
+    pub laid_seen : (old new : List ℕ) → LaysOnBelow (patches_of v.changes) (object_of v) offset old new → HidesBelow (patch_seen v) offset (length old) ⊎ AreStoredBytes image root v offset old
+        → AreSeenBytes image root v offset new
+    laid_seen old new lays given below is =
+        let n : ℕ = object_of v in
+        let objects : FinMap nat_cmp (List ℕ) = stored finite.empty n below in
+        let got : finite.get objects n ≡ below = get-stored_same finite.empty n below in
+        let laid : finite.get (laid_over (patches_of v.changes) objects) n ≡ seen_over v below = get-laid_over (patches_of v.changes) objects n low ∙ ap (patched (patch_seen v)) got in
+        subst (λ (o : Option (List ℕ)). AreBytesFrom offset (unwrap_or o []) new) laid (lays objects (ap is_some laid ∙ seen_there below is) (elim given [
+          | inl hides ↦ inl hides
+          | inr bytes ↦ inr (subst (λ (o : Option (List ℕ)). AreBytesFrom offset (unwrap_or o []) old) (sym got) (bytes below is))
+        ]))
+
+    -- so each byte is one of the own records, or of a sound record
+    pub hidden_checked : (count : ℕ) → HidesBelow (patch_seen v) offset count → AreCheckedBytes image root v offset count
+    hidden_checked count hides k inside = inl (hides k inside)
+
+    pub read_checked : (index start count : ℕ) → offset ≡ 4032 * index + start → start + count ≤ 4032 → IfSome v.stored (λ (e : Entry). IsSoundRecord image v.frame root (object_of v) index)
+        → AreCheckedBytes image root v offset count
+    read_checked index start count at within is k inside = go v.stored refl
+      where
+        r_is : index ≡ (offset + k) / 4032
+        r_is = omega (arith, at, within, inside)
+
+        go : (o : Option Entry) → v.stored ≡ o → (is_own v (offset + k) ≡ true) ⊎ IsSoundRecord image v.frame root (object_of v) ((offset + k) / 4032)
+        go (Some e) same =
+            inr (subst (λ (r : ℕ). IsSoundRecord image v.frame root (object_of v) r) r_is (subst (λ (o : Option Entry). IfSome o (λ (e : Entry). IsSoundRecord image v.frame root (object_of v) index)) same is))
+        go None same =
+            let alone : is_some (length_over (patch_seen v).basis None) ≡ true = ap (λ (o : Option Entry). is_some (length_over (patch_seen v).basis (length_of_entry o))) (sym same) ∙ there in
+            let none : not (is_shown (patch_seen v).basis (offset + k)) ≡ true = ap not (made_alone (patch_seen v).basis (offset + k) alone) in
+            inl (ap (λ b. is_some ((patch_seen v).written (offset + k)) || b) none ∙ or-true (is_some ((patch_seen v).written (offset + k))))
+
+-- a refusal of a record that has one of so many bytes from an offset on
+pub told_between : (image : List ℕ) (root : Pointer) (v : ObjectView) (from count done : ℕ) (e : PoolError) → done < count → TellsRecord image v.frame root (object_of v) ((from + done) / 4032) e
+    → TellsBetween image root v from (from + count) e
+told_between image root v from count done e inside tells kind address is =
+    ((from + done) / 4032, omega (arith, inside), omega (arith, inside), tells)
+
+pub told_within : (image : List ℕ) (root : Pointer) (v : ObjectView) (from to low high : ℕ) (e : PoolError) → low ≤ from → to ≤ high → TellsBetween image root v from to e → TellsBetween image root v low high e
+told_within image root v from to low high e first last tells kind address is =
+    let t = tells kind address is in
+    (t.0, omega (arith, t.1, first), omega (arith, t.2, last), t.3)
+
+-- checked bytes, and then more of them
+pub checked_more : (image : List ℕ) (root : Pointer) (v : ObjectView) (from done count offset : ℕ) → offset ≡ from + done → AreCheckedBytes image root v from done → AreCheckedBytes image root v offset count
+    → AreCheckedBytes image root v from (done + count)
+checked_more image root v from done count offset at first next k inside = go (cases_lt k done)
+  where
+    P : ℕ → Type 0
+    P i = (is_own v i ≡ true) ⊎ IsSoundRecord image v.frame root (object_of v) (i / 4032)
+
+    go : (k < done) ⊎ (done ≤ k) → P (from + k)
+    go (inl l) = first k l
+    go (inr g) =
+        let same : offset + (k - done) ≡ from + k = omega (arith, at, g) in
+        subst (λ (i : ℕ). P i) same (next (k - done) (omega (arith, inside, g)))
+
+-- The bytes of a range that lie below the length of an object.
+pub range_read : (bytes into : List ℕ) (low high size : ℕ) → size ≡ length bytes → low ≤ high → length into ≡ min high size - min low size → AreBytesFrom (min low size) bytes into
+    → into ≡ part bytes low (high - low)
+range_read bytes into low high size is ordered long read =
+    let size_is : length (part bytes low (high - low)) ≡ min (high - low) (length bytes - low) = simp (length-take, length-drop) refl in
+    ext_get_or 0 into (part bytes low (high - low)) (omega (arith, size_is, long, is, ordered)) (λ k inside.
+    let below : k < high - low = omega (arith, inside, long, ordered) in
+    let at : min low size + k ≡ low + k = omega (arith, inside, long, ordered) in
+    read k inside ∙ ap (λ (i : ℕ). get_or bytes i 0) at ∙ sym (get_or-take (high - low) (drop low bytes) k 0 below ∙ get_or-drop low bytes k 0))

@@ -1,0 +1,3 @@
+pub mod OwnRecords
+pub mod OwnLaws
+pub mod ObjectViews
