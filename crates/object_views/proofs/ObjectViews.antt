@@ -29,7 +29,7 @@ use Rattle.tree_blocks.specs.declared.forms.Entry.{Entry}
 use Rattle.tree_blocks.specs.Sources.{AreBytesFrom, object_bytes}
 use Rattle.trees.specs.ObjectPaths.{IsEntryFound, IsOnPath, TellsAbove, TellsPlace}
 use Rattle.trees.proofs.ObjectPaths.{tree_by_path}
-use Rattle.object_paths.specs.ReadPaths.{IsSoundObject, IsSoundRecord, TellsRecord, TellsStrip}
+use Rattle.object_paths.specs.ReadPaths.{IsSoundObject, IsSoundRecord, TellsRecord, TellsStrip, indirect_place, record_place}
 use Rattle.extents.specs.declared.basis.Basis.{Basis}
 use Rattle.extents.specs.declared.basis.Basis.TheVariants.{Cut, Gone, Grown, Made}
 use Rattle.extents.specs.LaidReads.{LaysOnBelow}
@@ -97,9 +97,11 @@ module _ (image : List ℕ) (u : Uberblock) (name : List ℕ) (pool : HasPool im
       elim tells [
         | inl strip ↦ elim strip [
           | inl top ↦ not_told image (frame_of image u) u.root (Top n) e kind address is top (sound_place (Top n) low)
-          | inr indirect ↦ not_told image (frame_of image u) u.root _ e kind address is indirect (sound_place _ (strip-low n (r / 84) low j_low))
+          | inr indirect ↦ not_told image (frame_of image u) u.root (indirect_place n r) e kind address is indirect (sound_place (indirect_place n r) (strip-low n (r / 84) low j_low))
         ]
-        | inr block ↦ not_told image (frame_of image u) u.root _ e kind address is block (sound_place _ (strip-low n (r / 84) low j_low, k_low))
+        | inr block ↦
+            let in_range : IsPlace (record_place n r) = (strip-low n (r / 84) low j_low, k_low) in
+            not_told image (frame_of image u) u.root (record_place n r) e kind address is block (sound_place (record_place n r) in_range)
       ]
 
   no_above : (n : ℕ) (e : PoolError) (kind address : ℕ) → n < object_count → e ≡ Damaged kind address → TellsAbove image (frame_of image u) u.root n e → ⊥
@@ -114,9 +116,8 @@ module _ (image : List ℕ) (u : Uberblock) (name : List ℕ) (pool : HasPool im
     applied : apply_records (records_above u.group chain) mine.synced ≡ Ok contents
     applied = subst (λ (c : List LogPiece). apply_records (records_above u.group c) mine.synced ≡ Ok contents) chain_is mine.applied
 
-    abbrev below : Option (List ℕ)
-    below = finite.get mine.synced.objects n
-
+    own : (finite.get contents.objects n ≡ object_after_all n (ops_of (own_of_records n (records_above u.group chain))) (finite.get mine.synced.objects n))
+        × TakePlace n (ops_of (own_of_records n (records_above u.group chain))) (finite.get mine.synced.objects n)
     own = own_suffice n (records_above u.group chain) mine.synced contents applied
 
     pub sound_below : n < object_count → IsSoundObject image (frame_of image u) u.root n (finite.get mine.synced.objects n)
@@ -154,7 +155,7 @@ module _ (image : List ℕ) (v : ObjectView) (seen : IsObjectViewOf image v) (co
   chain_is : mounts.1 ≡ seen.chain
   chain_is = same_chain image seen.u seen.name seen.pool contents mounts seen.chain seen.chain_is
 
-  pub stored_below : Option (List ℕ)
+  abbrev pub stored_below : Option (List ℕ)
   stored_below = finite.get (mine image seen.u seen.name seen.pool contents mounts).synced.objects (object_of v)
 
   pub mounted_object : finite.get contents.objects (object_of v) ≡ seen_over v stored_below

@@ -1,5 +1,5 @@
 -- The changes of an object's own operations grow operation by operation, up to the first that can't take place.
-use Rattle.std.proofs.Common.{◌≡◌, ℕ, ◌+◌, ◌<◌, ◌≤◌, true, false, List, [], ◌∷◌, ◌++◌, length, map, take, drop, get_or, inl, inr, Ok, Err, refl, sym, subst, ap, ◌∙◌, arith, append-nil, append_assoc}
+use Rattle.std.proofs.Common.{◌≡◌, ℕ, ◌+◌, ◌<◌, ◌≤◌, true, false, List, [], ◌∷◌, ◌++◌, length, map, take, drop, get_or, inl, inr, Some, None, Ok, Err, refl, sym, subst, ap, ◌∙◌, arith, append-nil, append_assoc}
 use Rattle.std.specs.Prelude.{Bool, MatchResult, Option, Result, fold, is_some, nat_lt, option_map}
 use Rattle.std.specs.List.{flat_map}
 use Rattle.std.proofs.lemmas.Grind.{flat_map-append}
@@ -18,7 +18,8 @@ use Rattle.extents.specs.Tables.{AppliesOps, patches_of}
 use Rattle.extents.proofs.PatchedObjects.{patched_length, patched_nothing}
 use Rattle.extents.proofs.SamePatches.{added_changes}
 use Rattle.log_replay.specs.Walked.{above_at, placed_at}
-use Rattle.log_replay.proofs.WalkedRecords.{above-cons}
+use Rattle.log_replay.proofs.WalkedRecords.{above-cons, above-next, above-passed, above-piece}
+use Rattle.records.specs.Records.{record_fields}
 use Rattle.records.specs.declared.record.Record.{Record}
 use Rattle.object_views.specs.OwnRecords.{AddsOwn, AreOwnChanges, ForLength, IsOwnRefusal, IsOwnRefused, PlacedOp, TakePlace, can_take_place, object_after_all, ops_of, own_of_records, own_op, own_ops}
 
@@ -139,3 +140,20 @@ own_each_record n group address (r ∷ rs) =
     ap (λ (ps : List PlacedOp). own_of_records n (above_at group address (r ∷ [])) ++ ps) (own_each_record n group address rs)
     ∙ sym (ap (own_of_records n) (filter-append (λ (p : Placed). nat_lt group p.logged.group) (placed_at address r ∷ []) (map (placed_at address) rs))
     ∙ flat_map-append (λ (p : Placed). own_ops n p.address p.logged.ops) (above_at group address (r ∷ [])) (above_at group address rs))
+
+-- the records of a piece, as they are read out of it
+pub own_piece : (n group address : ℕ) (piece : LogPiece) (records : List Record) → address ≡ piece.address → map record_fields records ≡ piece.records
+    → flat_map (λ (r : Record). own_of_records n (above_at group address (r ∷ []))) records ≡ own_of_records n (records_above group (piece ∷ []))
+own_piece n group address piece records at fields =
+    own_each_record n group address records ∙ ap (λ (a : ℕ). own_of_records n (above_at group a records)) at ∙ sym (ap (own_of_records n) (above-piece group piece records fields))
+
+-- one record, of a group above or not
+module _ (n : ℕ) (size : Option ℕ) (group address : ℕ) (r : Record) where
+  pub record_passed : (e : Extents) → nat_lt group r.group.0 ≡ false → AddsOwn n size (own_of_records n (above_at group address (r ∷ []))) e (Ok tt) e
+  record_passed e up_to = subst (λ (ps : List Placed). AddsOwn n size (own_of_records n ps) e (Ok tt) e) (sym (above-passed group address r [] up_to)) (passed n size e)
+
+  pub record_added : (old new : Extents) (result : Result (Unit {0}) PoolError) → nat_lt group r.group.0 ≡ true → AddsOwn n size (own_ops n address r.ops) old result new
+      → AddsOwn n size (own_of_records n (above_at group address (r ∷ []))) old result new
+  record_added old new result above adds =
+      let same : own_of_records n (above_at group address (r ∷ [])) ≡ own_ops n address r.ops = ap (own_of_records n) (above-next group address r [] above) ∙ append-nil (own_ops n address r.ops) in
+      subst (λ (ps : List PlacedOp). AddsOwn n size ps old result new) (sym same) adds

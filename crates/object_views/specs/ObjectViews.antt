@@ -15,8 +15,9 @@ use Rattle.device_model.specs.declared.device.SectorDevice.{Ghosts}
 use Rattle.tree_blocks.specs.declared.forms.Entry.{Entry}
 use Rattle.tree_blocks.specs.Sources.{AreBytesFrom}
 use Rattle.trees.specs.ObjectPaths.{IsEntryFound, IsSoundAbove, TellsAbove}
-use Rattle.object_paths.specs.ReadPaths.{ArePathBlocks, IsSoundObject, IsSoundRecord, TellsRecord}
+use Rattle.object_paths.specs.ReadPaths.{ArePathBlocks, IsSoundObject, IsSoundRecord, OnObject, TellsRecord}
 use Rattle.object_paths.specs.declared.path_blocks.PathBlocks.{PathBlocks}
+use Rattle.object_paths.specs.declared.stored_object.StoredObject.{StoredObject}
 use Rattle.extents.specs.Patches.{Patch, is_shown, length_over, patched}
 use Rattle.extents.specs.Tables.{patches_of}
 use Rattle.mounted.specs.Ranges.{is_readable}
@@ -103,9 +104,16 @@ pub record IsViewingRefused {Dev : Type 0} (D : Ghosts Dev) (n : ℕ) (old new :
 abbrev pub OnView : Bool → Disk → ObjectView → (List ℕ → Pointer → Type 0) → Type 0
 OnView keeps disk v P = IsTrue keeps → (image : List ℕ) (root : Pointer) → bytes_of disk.now ≡ image → IsStoredEntry image root (object_of v) v.stored → P image root
 
+-- the object as its directory's entry has it, and what holds of the image if there is one
+abbrev pub stored_object : ObjectView → Entry → StoredObject
+stored_object v e = record { frame = v.frame; id = v.object; entry = e }
+
+abbrev pub OnStored : Bool → Disk → ObjectView → (List ℕ → Pointer → Type 0) → Type 0
+OnStored keeps disk v P = IfSome v.stored (λ (e : Entry). OnObject keeps disk (stored_object v e) P)
+
 -- the blocks of the object that are read have the pointers below
-abbrev pub AreViewBlocks : List ℕ → Pointer → ObjectView → PathBlocks → Type 0
-AreViewBlocks image root v blocks = IfSome v.stored (λ (e : Entry). ArePathBlocks image v.frame root (object_of v) blocks)
+abbrev pub AreViewBlocks : ObjectView → PathBlocks → List ℕ → Pointer → Type 0
+AreViewBlocks v blocks image root = ArePathBlocks image v.frame root (object_of v) blocks
 
 -- bytes of the object below its own records, from an offset in a record on: those that the blocks of its path have
 abbrev pub AreStoredBytes : List ℕ → Pointer → ObjectView → ℕ → List ℕ → Type 0

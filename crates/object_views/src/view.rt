@@ -123,7 +123,7 @@ fn find_stored<D: SectorDevice>(
 }
 
 impl ObjectView {
-    ghost use Rattle.std.specs.Prelude.{◌≡◌, ◌+◌, ◌*◌, ◌<◌, ◌≤◌, ℕ, Err, None, Some, false, is_some, length, true, IfErr, IfOk, IfSome, IsTrue, OnOk};
+    ghost use Rattle.std.specs.Prelude.{◌≡◌, ◌+◌, ◌*◌, ◌<◌, ◌≤◌, ℕ, List, Err, None, Some, false, is_some, length, true, IfErr, IfOk, IfSome, IsTrue, OnOk};
     ghost use Rattle.base.specs.declared.error.PoolError.TheVariants as error;
     ghost use Rattle.base.specs.disk.Disk.{bytes_of};
     ghost use Rattle.base.specs.formats.Limits.{max_length, object_count, record_count, record_size};
@@ -136,7 +136,7 @@ impl ObjectView {
     ghost use Rattle.object_maps.specs.Cached.{IsReadRefusal};
     ghost use Rattle.object_paths.specs.ReadPaths.{IsSoundRecord, TellsRecord};
     ghost use Rattle.tree_blocks.specs.Sources.{range_in};
-    ghost use Rattle.object_views.specs.ObjectViews.{AreCheckedBytes, AreSeenBytes, AreStoredBytes, AreViewBlocks, FitsOn, IsCheckedRead, IsObjectReadRefusal, IsObjectViewOf, OnView, TellsBetween, length_seen, object_of};
+    ghost use Rattle.object_views.specs.ObjectViews.{AreCheckedBytes, AreSeenBytes, AreStoredBytes, AreViewBlocks, FitsOn, IsCheckedRead, IsObjectReadRefusal, IsObjectViewOf, OnStored, OnView, TellsBetween, length_seen, object_of};
 
     /// The length of the object in bytes, if it is there. It takes no memory.
     pub fn length(&self) -> Option<u64>
@@ -249,13 +249,13 @@ impl ObjectView {
         requires there { is_some (length_seen self.now) ≡ true }
         requires index { index < record_count }
         requires within { start + length into.old ≤ record_size }
-        requires blocks { OnView D.keeps_model (D.disk device.old) self.now (λ image root.
-            AreViewBlocks image root self.now blocks.old) }
+        requires blocks { OnStored D.keeps_model (D.disk device.old) self.now
+            (AreViewBlocks self.now blocks.old) }
         ensures reads { OnlyReads D.SectorDevice result device.old device.new }
         ensures size { length into.new ≡ length into.old }
         ensures refused { IfErr result IsReadRefusal }
-        ensures blocks { OnView D.keeps_model (D.disk device.old) self.now (λ image root.
-            OnOk result (AreViewBlocks image root self.now blocks.new)) }
+        ensures blocks { OnStored D.keeps_model (D.disk device.old) self.now (λ image root.
+            OnOk result (AreViewBlocks self.now blocks.new image root)) }
         ensures bytes { OnView D.keeps_model (D.disk device.old) self.now (λ image root.
             OnOk result (AreSeenBytes image root self.now (record_size * index + start) into.new)) }
         ensures checked { OnView D.keeps_model (D.disk device.old) self.now (λ image root.
@@ -283,13 +283,13 @@ impl ObjectView {
         requires number { object_of self.now < object_count }
         requires index { index < record_count }
         requires within { start + length into.old ≤ record_size }
-        requires blocks { OnView D.keeps_model (D.disk device.old) self.now (λ image root.
-            AreViewBlocks image root self.now blocks.old) }
+        requires blocks { OnStored D.keeps_model (D.disk device.old) self.now
+            (AreViewBlocks self.now blocks.old) }
         ensures reads { OnlyReads D.SectorDevice result device.old device.new }
         ensures size { length into.new ≡ length into.old }
         ensures refused { IfErr result IsReadRefusal }
-        ensures blocks { OnView D.keeps_model (D.disk device.old) self.now (λ image root.
-            OnOk result (AreViewBlocks image root self.now blocks.new)) }
+        ensures blocks { OnStored D.keeps_model (D.disk device.old) self.now (λ image root.
+            OnOk result (AreViewBlocks self.now blocks.new image root)) }
         ensures bytes { OnView D.keeps_model (D.disk device.old) self.now (λ image root.
             OnOk result (AreStoredBytes image root self.now (record_size * index + start) into.new)) }
         ensures sound { OnView D.keeps_model (D.disk device.old) self.now (λ image root.
