@@ -175,6 +175,6 @@ module _ (image : List ℕ) (v : ObjectView) (seen : IsObjectViewOf image v) (co
     pub no_damage : (from to : ℕ) (e : PoolError) → to ≤ max_length → TellsBetween image seen.u.root v from to e → IsOfNoDamage e
     no_damage from to e within tells kind address is =
         let t = tells kind address is in
-        let inside : t.0 < record_count = (let most = max-length in omega (arith, t.2, within, most)) in
-        no_record image seen.u seen.name seen.pool contents mounts (object_of v) t.0 e kind address low inside is
-        (subst (λ (f : Frame). TellsRecord image f seen.u.root (object_of v) t.0 e) seen.frame_is t.3)
+        let inside : t.0 / 4032 < record_count = (let most = max-length in omega (arith, t.2, within, most, record-count)) in
+        no_record image seen.u seen.name seen.pool contents mounts (object_of v) (t.0 / 4032) e kind address low inside is
+        (subst (λ (f : Frame). TellsRecord image f seen.u.root (object_of v) (t.0 / 4032) e) seen.frame_is t.3)

@@ -1,6 +1,6 @@
 -- What reads of a view give of an object, from the bytes of the object below its own records.
 use Rattle.std.proofs.Common.{◌≡◌, ◌≢◌, ℕ, ◌+◌, ◌-◌, ◌*◌, ◌/◌, ◌%◌, ◌<◌, ◌≤◌, ◌⊎◌, inl, inr, true, false, List, [], length, get_or, Option, Some, None, refl, sym, ap, subst, ◌∙◌, arith, min, take, drop, length-take, length-drop, get_or-take, get_or-drop}
-use Rattle.std.specs.Prelude.{IfSome, is_some, not, option_map, unwrap_or, ◌||◌}
+use Rattle.std.specs.Prelude.{Bool, IfSome, IsTrue, is_some, not, option_map, unwrap_or, ◌||◌}
 use Rattle.std.specs.FinMap as finite
 use Rattle.std.specs.FinMap.{FinMap}
 use Rattle.std.specs.Ordering.{nat_cmp}
@@ -10,13 +10,16 @@ use Rattle.std.proofs.Math.Bool.{or-true}
 use Rattle.base.specs.declared.error.PoolError.{PoolError}
 use Rattle.base.specs.declared.pointer.Pointer.{Pointer}
 use Rattle.base.specs.declared.range.Range.{Range}
+use Rattle.base.specs.disk.Disk.{Disk, bytes_of}
 use Rattle.base.specs.formats.Fields.{part}
-use Rattle.base.specs.formats.Limits.{object_count}
+use Rattle.base.specs.formats.Limits.{object_count, record_count, record_size}
 use Rattle.base.specs.history.Contents.{stored}
 use Rattle.base.proofs.history.Objects.{get-stored_same}
 use Rattle.tree_blocks.specs.declared.forms.Entry.{Entry}
 use Rattle.tree_blocks.specs.Sources.{AreBytesFrom, object_bytes}
-use Rattle.object_paths.specs.ReadPaths.{IsSoundObject, IsSoundRecord, TellsRecord}
+use Rattle.trees.specs.ObjectPaths.{IsEntryFound}
+use Rattle.object_paths.specs.ReadPaths.{IsPartRead, IsSoundObject, IsSoundRecord, IsStripRead, OnObject, TellsRecord}
+use Rattle.object_paths.specs.declared.path_blocks.PathBlocks.{PathBlocks}
 use Rattle.extents.specs.declared.basis.Basis.{Basis}
 use Rattle.extents.specs.declared.basis.Basis.TheVariants.{Cut, Gone, Grown, Made}
 use Rattle.extents.specs.LaidReads.{LaysOnBelow}
@@ -25,8 +28,8 @@ use Rattle.extents.specs.Patches.{is_shown, laid_over, length_over, patched}
 use Rattle.extents.specs.Tables.{patches_of}
 use Rattle.extents.proofs.LaidObjects.{get-laid_over}
 use Rattle.extents.proofs.PatchedObjects.{patched_length}
-use Rattle.object_reads.proofs.ReadParts.{part_read}
-use Rattle.object_views.specs.ObjectViews.{AreCheckedBytes, AreSeenBytes, AreStoredBytes, IsStoredEntry, TellsBetween, bytes_of_range, is_own, length_of_entry, length_seen, object_of, patch_seen, seen_over}
+use Rattle.object_reads.proofs.SyncedObjects.{bytes_long}
+use Rattle.object_views.specs.ObjectViews.{AreCheckedBytes, AreSeenBytes, AreStoredBytes, AreViewBlocks, IsCheckedRead, IsStoredEntry, OnStored, TellsBetween, bytes_of_range, is_own, length_of_entry, length_seen, object_of, patch_seen, seen_over, stored_object}
 use Rattle.object_views.specs.declared.view.ObjectView.{ObjectView}
 use Rattle.object_views.proofs.ObjectViews.{size_below}
 
@@ -40,6 +43,33 @@ made_alone Gone i there = refl
 some_of : (o : Option (List ℕ)) → is_some (option_map length o) ≡ true → is_some o ≡ true
 some_of (Some bytes) there = refl
 some_of None there = there
+
+-- what holds of the image of a device holds of that of one with the same disk
+pub stored_moved : (v : ObjectView) (keeps : Bool) (old new : Disk) (P : List ℕ → Pointer → Type 0) → (IsTrue keeps → new ≡ old) → OnStored keeps old v P → OnStored keeps new v P
+stored_moved v keeps old new P same holds = go v.stored holds
+  where
+    go : (o : Option Entry) → IfSome o (λ (e : Entry). OnObject keeps old (stored_object v e) P) → IfSome o (λ (e : Entry). OnObject keeps new (stored_object v e) P)
+    go None h = tt
+    go (Some e) h = λ k image root shows is. h k image root (ap (λ (d : Disk). bytes_of d.now) (sym (same k)) ∙ shows) is
+
+-- no block is read yet
+pub none_read : (v : ObjectView) (keeps : Bool) (disk : Disk) (blocks : PathBlocks) → blocks.is_top_read ≡ false → blocks.strip ≡ None → OnStored keeps disk v (AreViewBlocks v blocks)
+none_read v keeps disk blocks top strip = go v.stored
+  where
+    go : (o : Option Entry) → IfSome o (λ (e : Entry). OnObject keeps disk (stored_object v e) (AreViewBlocks v blocks))
+    go None = tt
+    go (Some e) = λ k image root shows is. record {
+      top = λ is_read. absurd (false≢true (sym top ∙ is_read));
+      strip = subst (λ (o : Option ℕ). IfSome o (λ j. IsStripRead image v.frame root (object_of v) j blocks.indirect)) (sym strip) tt;
+    }
+
+-- bytes of the object in the tree, from a part of a record that was read
+pub stored_bytes : (image : List ℕ) (root : Pointer) (v : ObjectView) (entry : Entry) (index start : ℕ) (into : List ℕ) → object_of v < object_count → index < record_count → IsStoredEntry image root (object_of v) v.stored
+    → v.stored ≡ Some entry → IsPartRead image v.frame root (object_of v) index start into → AreStoredBytes image root v (record_size * index + start) into
+stored_bytes image root v entry index start into low inside is same read None object =
+    let at = subst (λ (o : Option Entry). IsEntryFound image root (object_of v) o) same (is.found low) in
+    absurd (subst (λ (o : Option Entry). IfSome o (λ (e : Entry). e.present ≢ 0)) same is.present (sym at.levels ∙ object))
+stored_bytes image root v entry index start into low inside is same read (Some bytes) object = read.bytes bytes (object.records index inside read.sound)
 
 module _ (image : List ℕ) (root : Pointer) (v : ObjectView) (low : object_of v < object_count) (entry : IsStoredEntry image root (object_of v) v.stored) where
   -- what is seen over an object of the tree has the length that is seen
@@ -86,13 +116,14 @@ module _ (image : List ℕ) (root : Pointer) (v : ObjectView) (low : object_of v
 -- a refusal of a record that has one of so many bytes from an offset on
 pub told_between : (image : List ℕ) (root : Pointer) (v : ObjectView) (from count done : ℕ) (e : PoolError) → done < count → TellsRecord image v.frame root (object_of v) ((from + done) / 4032) e
     → TellsBetween image root v from (from + count) e
-told_between image root v from count done e inside tells kind address is =
-    ((from + done) / 4032, omega (arith, inside), omega (arith, inside), tells)
+told_between image root v from count done e inside tells kind address is = (from + done, omega arith, omega (arith, inside), tells)
 
-pub told_within : (image : List ℕ) (root : Pointer) (v : ObjectView) (from to low high : ℕ) (e : PoolError) → low ≤ from → to ≤ high → TellsBetween image root v from to e → TellsBetween image root v low high e
-told_within image root v from to low high e first last tells kind address is =
+-- so it is of a range that is read up to the end of an object
+pub told_within : (image : List ℕ) (root : Pointer) (v : ObjectView) (low high size count : ℕ) (e : PoolError) → count ≡ min high size - min low size
+    → TellsBetween image root v (min low size) (min low size + count) e → TellsBetween image root v low high e
+told_within image root v low high size count e counted tells kind address is =
     let t = tells kind address is in
-    (t.0, omega (arith, t.1, first), omega (arith, t.2, last), t.3)
+    (t.0, omega (arith, t.1, t.2, counted), omega (arith, t.1, t.2, counted), t.3)
 
 -- checked bytes, and then more of them
 pub checked_more : (image : List ℕ) (root : Pointer) (v : ObjectView) (from done count offset : ℕ) → offset ≡ from + done → AreCheckedBytes image root v from done → AreCheckedBytes image root v offset count
@@ -117,3 +148,23 @@ range_read bytes into low high size is ordered long read =
     let below : k < high - low = omega (arith, inside, long, ordered) in
     let at : min low size + k ≡ low + k = omega (arith, inside, long, ordered) in
     read k inside ∙ ap (λ (i : ℕ). get_or bytes i 0) at ∙ sym (get_or-take (high - low) (drop low bytes) k 0 below ∙ get_or-drop low bytes k 0))
+
+-- The bytes of a range that were read up to the end of the object that is seen.
+pub checked_read : (image : List ℕ) (root : Pointer) (v : ObjectView) (range : Range) (size : ℕ) (into : List ℕ) → object_of v < object_count → IsStoredEntry image root (object_of v) v.stored
+    → length_seen v ≡ Some size → range.low ≤ range.high → length into ≡ min range.high size - min range.low size → AreSeenBytes image root v (min range.low size) into
+    → AreCheckedBytes image root v (min range.low size) (length into) → IsCheckedRead image root v range into
+checked_read image root v range size into low entry sized ordered long seen checked = record { exact = exact; checked = from_low }
+  where
+    P : ℕ → Type 0
+    P i = (is_own v i ≡ true) ⊎ IsSoundRecord image v.frame root (object_of v) (i / 4032)
+
+    exact : (below : Option (List ℕ)) → IsSoundObject image v.frame root (object_of v) below → into ≡ bytes_of_range (seen_over v below) range
+    exact below is =
+        let b = bytes_long (seen_over v below) size (sym (seen_length image root v low entry below is ∙ sized)) in
+        range_read b.0 into range.low range.high size (sym b.2) ordered long (subst (λ (o : Option (List ℕ)). AreBytesFrom (min range.low size) (unwrap_or o []) into) b.1 (seen below is))
+        ∙ ap (λ (o : Option (List ℕ)). bytes_of_range o range) (sym b.1)
+
+    from_low : AreCheckedBytes image root v range.low (length into)
+    from_low k inside =
+        let at : min range.low size + k ≡ range.low + k = omega (arith, inside, long, ordered) in
+        subst (λ (i : ℕ). P i) at (checked k inside)

@@ -130,10 +130,10 @@ abbrev pub AreCheckedBytes : List ℕ → Pointer → ObjectView → ℕ → ℕ
 AreCheckedBytes image root v offset count =
     (k : ℕ) → k < count → (is_own v (offset + k) ≡ true) ⊎ IsSoundRecord image v.frame root (object_of v) ((offset + k) / record_size)
 
--- a Damaged tells a place on the path of a record that has bytes from one offset up to another
+-- a Damaged tells a place on the path of the record that has a byte from one offset up to another
 abbrev pub TellsBetween : List ℕ → Pointer → ObjectView → ℕ → ℕ → PoolError → Type 0
 TellsBetween image root v low high e = (kind address : ℕ) → e ≡ Damaged kind address
-    → (r : ℕ) × (low < record_size * (r + 1)) × (record_size * r < high) × TellsRecord image v.frame root (object_of v) r e
+    → (i : ℕ) × (low ≤ i) × (i < high) × TellsRecord image v.frame root (object_of v) (i / record_size) e
 
 -- Bytes of a range were read of an image. They are those of the object, whatever its bytes are where its places aren't
 -- sound. Each of them is one of its own records, or lies in a record whose places are sound.
