@@ -1,10 +1,10 @@
 -- What reads of a view give of an object, from the bytes of the object below its own records.
 use Rattle.std.proofs.Common.{◌≡◌, ◌≢◌, ℕ, ◌+◌, ◌-◌, ◌*◌, ◌/◌, ◌%◌, ◌<◌, ◌≤◌, ◌⊎◌, inl, inr, true, false, List, [], length, get_or, Option, Some, None, refl, sym, ap, subst, ◌∙◌, arith, min, take, drop, length-take, length-drop, get_or-take, get_or-drop}
-use Rattle.std.specs.Prelude.{Bool, IfSome, IsTrue, is_some, not, option_map, unwrap_or, ◌||◌}
+use Rattle.std.specs.Prelude.{Bool, IfSome, IsTrue, is_some, nat_le, nat_lt, not, option_map, unwrap_or, ◌||◌}
 use Rattle.std.specs.FinMap as finite
 use Rattle.std.specs.FinMap.{FinMap}
 use Rattle.std.specs.Ordering.{nat_cmp}
-use Rattle.std.proofs.lemmas.Bool.{cases_Bool, cases_lt, false≢true}
+use Rattle.std.proofs.lemmas.Bool.{and_parts, cases_lt, false≢true, leb-true}
 use Rattle.std.proofs.lemmas.List.{ext_get_or}
 use Rattle.std.proofs.Math.Bool.{or-true}
 use Rattle.base.specs.declared.error.PoolError.{PoolError}
@@ -12,8 +12,9 @@ use Rattle.base.specs.declared.pointer.Pointer.{Pointer}
 use Rattle.base.specs.declared.range.Range.{Range}
 use Rattle.base.specs.disk.Disk.{Disk, bytes_of}
 use Rattle.base.specs.formats.Fields.{part}
-use Rattle.base.specs.formats.Limits.{object_count, record_count, record_size}
+use Rattle.base.specs.formats.Limits.{max_length, object_count, record_count, record_size}
 use Rattle.base.specs.history.Contents.{stored}
+use Rattle.base.specs.steps.Locks.{is_range_allowed}
 use Rattle.base.proofs.history.Objects.{get-stored_same}
 use Rattle.tree_blocks.specs.declared.forms.Entry.{Entry}
 use Rattle.tree_blocks.specs.Sources.{AreBytesFrom, object_bytes}
@@ -32,6 +33,10 @@ use Rattle.object_reads.proofs.SyncedObjects.{bytes_long}
 use Rattle.object_views.specs.ObjectViews.{AreCheckedBytes, AreSeenBytes, AreStoredBytes, AreViewBlocks, IsCheckedRead, IsStoredEntry, OnStored, TellsBetween, bytes_of_range, is_own, length_of_entry, length_seen, object_of, patch_seen, seen_over, stored_object}
 use Rattle.object_views.specs.declared.view.ObjectView.{ObjectView}
 use Rattle.object_views.proofs.ObjectViews.{size_below}
+
+-- a range that may be read ends within the greatest length
+pub allowed_within : (low high : ℕ) → is_range_allowed low high ≡ true → high ≤ max_length
+allowed_within low high allowed = leb-true high max_length (and_parts (nat_lt low high) (nat_le high max_length) allowed).1
 
 -- an object that is there over none has no byte of one below
 made_alone : (basis : Basis) (i : ℕ) → is_some (length_over basis None) ≡ true → is_shown basis i ≡ false
