@@ -75,6 +75,12 @@ not_told : (image : List ℕ) (frame : Frame) (root : Pointer) (place : Place) (
     → IsSoundAt image frame root place → ⊥
 not_told image frame root place e kind address is tells = (tells kind address is).2
 
+pub sound_untold : (image : List ℕ) (frame : Frame) (root : Pointer) (n r : ℕ) (e : PoolError) (kind address : ℕ) → e ≡ Damaged kind address → IsSoundRecord image frame root n r
+    → TellsRecord image frame root n r e → ⊥
+sound_untold image frame root n r e kind address is sound (inl (inl top)) = not_told image frame root (Top n) e kind address is top sound.top
+sound_untold image frame root n r e kind address is sound (inl (inr indirect)) = not_told image frame root (indirect_place n r) e kind address is indirect sound.indirect
+sound_untold image frame root n r e kind address is sound (inr block) = not_told image frame root (record_place n r) e kind address is block sound.block
+
 -- what the image mounts, by the active uberblock that it has
 module _ (image : List ℕ) (u : Uberblock) (name : List ℕ) (pool : HasPool image u name) (contents : Contents) (mounts : MountsTo image contents) where
   same_u : mounts.0 ≡ u
@@ -94,15 +100,12 @@ module _ (image : List ℕ) (u : Uberblock) (name : List ℕ) (pool : HasPool im
   no_record n r e kind address low inside is tells =
       let j_low : r / 84 < 84 = omega (arith, inside, record-count) in
       let k_low : r % 84 < 84 = omega arith in
-      elim tells [
-        | inl strip ↦ elim strip [
-          | inl top ↦ not_told image (frame_of image u) u.root (Top n) e kind address is top (sound_place (Top n) low)
-          | inr indirect ↦ not_told image (frame_of image u) u.root (indirect_place n r) e kind address is indirect (sound_place (indirect_place n r) (strip-low n (r / 84) low j_low))
-        ]
-        | inr block ↦
-            let in_range : IsPlace (record_place n r) = (strip-low n (r / 84) low j_low, k_low) in
-            not_told image (frame_of image u) u.root (record_place n r) e kind address is block (sound_place (record_place n r) in_range)
-      ]
+      let in_range : IsPlace (record_place n r) = (strip-low n (r / 84) low j_low, k_low) in
+      sound_untold image (frame_of image u) u.root n r e kind address is (record {
+        top = sound_place (Top n) low;
+        indirect = sound_place (indirect_place n r) (strip-low n (r / 84) low j_low);
+        block = sound_place (record_place n r) in_range;
+      }) tells
 
   no_above : (n : ℕ) (e : PoolError) (kind address : ℕ) → n < object_count → e ≡ Damaged kind address → TellsAbove image (frame_of image u) u.root n e → ⊥
   no_above n e kind address low is tells =

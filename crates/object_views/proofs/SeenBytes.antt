@@ -1,5 +1,5 @@
 -- What reads of a view give of an object, from the bytes of the object below its own records.
-use Rattle.std.proofs.Common.{◌≡◌, ◌≢◌, ℕ, ◌+◌, ◌-◌, ◌*◌, ◌/◌, ◌%◌, ◌<◌, ◌≤◌, ◌⊎◌, inl, inr, true, false, List, [], length, get_or, Option, Some, None, refl, sym, ap, subst, ◌∙◌, arith, min, take, drop, length-take, length-drop, get_or-take, get_or-drop}
+use Rattle.std.proofs.Common.{◌≡◌, ◌≢◌, ℕ, ◌+◌, ◌-◌, ◌*◌, ◌/◌, ◌%◌, ◌<◌, ◌≤◌, ◌⊎◌, inl, inr, true, false, List, [], ◌∷◌, length, get_or, Option, Some, None, refl, sym, ap, subst, ◌∙◌, arith, min, take, drop, length-take, length-drop, get_or-take, get_or-drop}
 use Rattle.std.specs.Prelude.{Bool, IfSome, IsTrue, is_some, nat_le, nat_lt, not, option_map, unwrap_or, ◌||◌}
 use Rattle.std.specs.FinMap as finite
 use Rattle.std.specs.FinMap.{FinMap}
@@ -173,3 +173,12 @@ checked_read image root v range size into low entry sized ordered long seen chec
     from_low k inside =
         let at : min range.low size + k ≡ range.low + k = omega (arith, inside, long, ordered) in
         subst (λ (i : ℕ). P i) at (checked k inside)
+
+-- no byte is read of the first record if its places aren't all sound, but for one of the own records
+pub none_checked : (image : List ℕ) (root : Pointer) (v : ObjectView) (bytes : List ℕ) → (IsSoundRecord image v.frame root (object_of v) 0 → ⊥) → is_own v 0 ≡ false
+    → AreCheckedBytes image root v 0 (length bytes) → bytes ≡ []
+none_checked image root v [] unsound not_own checked = refl
+none_checked image root v (b ∷ bytes) unsound not_own checked = elim (checked 0 (omega arith)) [
+  | inl own ↦ absurd (false≢true (sym not_own ∙ own))
+  | inr sound ↦ absurd (unsound sound)
+]
