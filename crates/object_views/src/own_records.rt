@@ -6,7 +6,7 @@ ghost use Rattle.base.specs.formats.Records.{IsAllowed};
 ghost use Rattle.base.specs.tree.Mount.{records_above};
 ghost use Rattle.log_replay.specs.Replays.{IsChainAllowed, IsPieceAllowed};
 ghost use Rattle.log_replay.specs.Walked.{above_at};
-ghost use Rattle.object_maps.specs.Ops.{AreOpsAllowed, IsOpAllowed};
+ghost use Rattle.contents.specs.Ops.{AreOpsAllowed, IsOpAllowed};
 ghost use Rattle.records.specs.Records.{record_fields};
 ghost use Rattle.object_views.specs.OwnRecords.{AddsOwn, AreOwnChanges, IsOwnRefusal, can_take_place, is_on, ops_of, own_of_records, own_op, own_ops};
 
