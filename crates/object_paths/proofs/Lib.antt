@@ -1,1 +1,2 @@
+pub mod TestedBlocks
 pub mod ReadPlaces

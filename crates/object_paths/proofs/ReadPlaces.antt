@@ -9,7 +9,7 @@ use Rattle.base.specs.declared.error.PoolError.TheVariants.{Damaged}
 use Rattle.base.specs.declared.pointer.Pointer.{Pointer}
 use Rattle.base.specs.formats.Blocks.{Frame}
 use Rattle.base.specs.formats.Fields.{no_pointer, pointer_in}
-use Rattle.base.specs.formats.Limits.{indirect_count, object_count, pointer_count, record_count, record_size}
+use Rattle.base.specs.formats.Limits.{object_count, pointer_count, record_count, record_size}
 use Rattle.base.specs.kept.PlacedTrees.{padded_record}
 use Rattle.base.specs.tree.Damages.{IsRecordPointerForm, IsSoundAt, length_in}
 use Rattle.base.specs.tree.Places.{Place, indirect_pointer, levels_in, object_of_indirect, pointer_of, record_number, record_start, strip_number, strip_start}
@@ -22,10 +22,10 @@ use Rattle.object_maps.proofs.ObjectReads.{hole_bytes, part_bytes, record_hole, 
 use Rattle.tree_blocks.specs.Forms.{AreRecordForms, AreStripForms}
 use Rattle.tree_blocks.specs.declared.forms.Entry.{Entry}
 use Rattle.trees.specs.ObjectPaths.{TellsPlace}
-use Rattle.trees.specs.Walking.{IsDataOf, IsIndirectOf, IsObjectAt, IsTopOf}
-use Rattle.trees.proofs.ObjectPaths.{place_formless, place_missing}
-use Rattle.trees.proofs.WalkDamages.{padded-back, record_sound, same_payload}
-use Rattle.trees.proofs.WalkParts.{first_strip, indirect_sound, later_strips, no_top, records_linked, top_at, top_none, top_sound, top_strips}
+use Rattle.trees.specs.Walking.{IsIndirectOf, IsObjectAt, IsTopOf}
+use Rattle.trees.proofs.WalkDamages.{same_payload, sound_at}
+use Rattle.trees.proofs.WalkParts.{first_strip, later_strips, no_top, records_linked, top_at, top_none, top_strips}
+use Rattle.object_paths.proofs.TestedBlocks.{padded, padded_zeros, tells_formless, tells_missing}
 use Rattle.object_paths.specs.ReadPaths.{AreRecordBytes, IsBlockMissing, IsPayloadRead, IsStripRead, IsTopRead, TellsStrip, record_place}
 
 -- a block is refused as a read is
@@ -71,7 +71,7 @@ module _ (image : List ℕ) (frame : Frame) (root : Pointer) (n : ℕ) (entry : 
     of_top = record { levels = o.levels ∙ two; at = o.at; size_is = o.size_is }
 
     pub top_missing : (e : PoolError) → IsBlockMissing image frame (Top n) entry.pointer e → TellsPlace image frame root (Top n) e
-    top_missing e missing = place_missing image frame root (Top n) entry.pointer e (top_at image root n entry.length entry.pointer of_top) missing.0 missing.1
+    top_missing e missing = tells_missing image frame root (Top n) entry.pointer (top_at image root n entry.length entry.pointer of_top) missing.0 e missing.1
 
     module _ (payload : List ℕ) (read : IsPayloadRead image frame (Top n) entry.pointer payload) where
       pub top_read : AreStripForms entry.length payload → IsTopRead image frame root n payload
@@ -81,7 +81,8 @@ module _ (image : List ℕ) (frame : Frame) (root : Pointer) (n : ℕ) (entry : 
           at = λ j inside. top_none image root n entry.length entry.pointer low of_top none.0 j inside ∙ sym (none.1 j inside);
         }
         | inr block ↦ record {
-          top = top_sound image frame root n entry.length entry.pointer payload of_top block.1 formed;
+          top = sound_at image frame root (Top n) entry.pointer payload (top_at image root n entry.length entry.pointer of_top) block.1
+              (λ j within. subst (λ (s : ℕ). IsRecordPointerForm s (strip_start j) (pointer_in payload j)) (sym o.size_is) (formed j within));
           at = (top_strips image frame root n entry.length entry.pointer payload low of_top block.1).at;
         }
       ]
@@ -89,7 +90,7 @@ module _ (image : List ℕ) (frame : Frame) (root : Pointer) (n : ℕ) (entry : 
       pub top_formless : (e : PoolError) → (AreStripForms entry.length payload → ⊥) → e ≡ Damaged 7 entry.pointer.address → TellsPlace image frame root (Top n) e
       top_formless e not is = elim read as (λ _. TellsPlace image frame root (Top n) e) [
         | inl none ↦ absurd (not (λ j inside. none_formed entry.length (strip_start j) (pointer_in payload j) (none.1 j inside)))
-        | inr block ↦ place_formless image frame root (Top n) entry.pointer payload e (top_at image root n entry.length entry.pointer of_top) block.0 block.1
+        | inr block ↦ tells_formless image frame root (Top n) entry.pointer (top_at image root n entry.length entry.pointer of_top) block.0 payload e block.1
             (λ formed. not (λ j within. subst (λ (s : ℕ). IsRecordPointerForm s (strip_start j) (pointer_in payload j)) o.size_is (formed j within))) is
       ]
 
@@ -97,7 +98,7 @@ module _ (image : List ℕ) (frame : Frame) (root : Pointer) (n : ℕ) (entry : 
 module _ (image : List ℕ) (frame : Frame) (root : Pointer) (n j size : ℕ) (pointer : Pointer) (low : n < object_count) (inside : j < pointer_count)
     (i : IsIndirectOf image root (strip_number n j) pointer size) where
   pub strip_missing : (e : PoolError) → IsBlockMissing image frame (Indirect (strip_number n j)) pointer e → TellsStrip image frame root n j e
-  strip_missing e missing = inr (place_missing image frame root (Indirect (strip_number n j)) pointer e i.at missing.0 missing.1)
+  strip_missing e missing = inr (tells_missing image frame root (Indirect (strip_number n j)) pointer i.at missing.0 e missing.1)
 
   module _ (payload : List ℕ) (read : IsPayloadRead image frame (Indirect (strip_number n j)) pointer payload) where
     pub strip_read : IsSoundAt image frame root (Top n) → AreRecordForms (strip_number n j) size payload → IsStripRead image frame root n j payload
@@ -109,7 +110,8 @@ module _ (image : List ℕ) (frame : Frame) (root : Pointer) (n j size : ℕ) (p
       }
       | inr block ↦ record {
         top = top;
-        indirect = (indirect_sound image frame root (strip_number n j) size pointer payload (strip-low n j low inside) i block.1 formed).each (Indirect (strip_number n j)) (strip-low n j low inside) (omega arith) (omega arith);
+        indirect = sound_at image frame root (Indirect (strip_number n j)) pointer payload i.at block.1
+            (λ k within. subst (λ (s : ℕ). IsRecordPointerForm s (record_start (strip_number n j) k) (pointer_in payload k)) (sym i.size_is) (formed k within));
         at = (records_linked image frame root (strip_number n j) size pointer payload i block.1).at;
       }
     ]
@@ -117,7 +119,7 @@ module _ (image : List ℕ) (frame : Frame) (root : Pointer) (n j size : ℕ) (p
     pub strip_formless : (e : PoolError) → (AreRecordForms (strip_number n j) size payload → ⊥) → e ≡ Damaged 4 pointer.address → TellsStrip image frame root n j e
     strip_formless e not is = elim read as (λ _. TellsStrip image frame root n j e) [
       | inl none ↦ absurd (not (λ k within. none_formed size (record_start (strip_number n j) k) (pointer_in payload k) (none.1 k within)))
-      | inr block ↦ inr (place_formless image frame root (Indirect (strip_number n j)) pointer payload e i.at block.0 block.1
+      | inr block ↦ inr (tells_formless image frame root (Indirect (strip_number n j)) pointer i.at block.0 payload e block.1
           (λ formed. not (λ k within. subst (λ (s : ℕ). IsRecordPointerForm s (record_start (strip_number n j) k) (pointer_in payload k)) i.size_is (formed k within))) is)
     ]
 
@@ -125,12 +127,6 @@ module _ (image : List ℕ) (frame : Frame) (root : Pointer) (n j size : ℕ) (p
 module _ (image : List ℕ) (frame : Frame) (root : Pointer) (n r : ℕ) (low : n < object_count) (inside : r < record_count) where
   number : record_number (strip_number n (r / 84)) (r % 84) ≡ r
   number = omega (arith, low)
-
-  m_low : strip_number n (r / 84) < indirect_count
-  m_low = strip-low n (r / 84) low (omega (arith, inside, record-count))
-
-  k_low : r % 84 < 84
-  k_low = omega arith
 
   module _ (pointer : Pointer) (at : pointer_of image root (record_place n r) ≡ pointer) where
     -- that is a hole
@@ -158,13 +154,15 @@ module _ (image : List ℕ) (frame : Frame) (root : Pointer) (n r : ℕ) (low : 
         counted : count ≡ min (size - record_start (strip_number n (r / 84)) (r % 84)) 4032
         counted = count_is ∙ ap (λ (q : ℕ). min (size - 4032 * q) 4032) (sym number)
 
+        past : length_in image root (object_of_indirect (strip_number n (r / 84))) - record_start (strip_number n (r / 84)) (r % 84) ≡ size - record_start (strip_number n (r / 84)) (r % 84)
+        past = ap (λ (s : ℕ). s - record_start (strip_number n (r / 84)) (r % 84)) size_is
+
         pub block_sound : drop count payload ≡ replicate (length (drop count payload)) 0 → IsSoundAt image frame root (record_place n r)
         block_sound zeros =
-            (record_sound image frame root (strip_number n (r / 84)) (r % 84) size count pointer payload m_low k_low (record { at = at; there = some; size_is = size_is }) opens long counted zeros).each
-            (record_place n r) (m_low, k_low) (omega arith) (omega arith)
+            sound_at image frame root (record_place n r) pointer payload at opens
+            (subst (λ (s : ℕ). drop s payload ≡ replicate (record_size - s) 0) (sym past) (padded payload (size - record_start (strip_number n (r / 84)) (r % 84)) count long counted zeros))
 
         pub block_formless : (e : PoolError) → (drop count payload ≡ replicate (length (drop count payload)) 0 → ⊥) → e ≡ Damaged 5 pointer.address → TellsPlace image frame root (record_place n r) e
         block_formless e not is =
-            place_formless image frame root (record_place n r) pointer payload e at some opens
-            (λ formed. not (padded-back payload (size - record_start (strip_number n (r / 84)) (r % 84)) count long counted
-            (subst (λ (s : ℕ). drop (s - record_start (strip_number n (r / 84)) (r % 84)) payload ≡ replicate (record_size - (s - record_start (strip_number n (r / 84)) (r % 84))) 0) size_is formed))) is
+            tells_formless image frame root (record_place n r) pointer at some payload e opens
+            (λ formed. not (padded_zeros payload (size - record_start (strip_number n (r / 84)) (r % 84)) count long counted (subst (λ (s : ℕ). drop s payload ≡ replicate (record_size - s) 0) past formed))) is

@@ -1,7 +1,7 @@
 //! Reads of parts of the records of an object, by the blocks of its path.
 //!
-//! Each block is tested as a walk of the tree tests it, also in its form, before what it holds is taken. So on any image
-//! the bytes are those of sound blocks, and a refusal tells a place of the path that isn't sound.
+//! Each block is tested as a walk of the tree tests it, also in its form, before what it holds is taken. So on any
+//! image the bytes are those of sound blocks, and a refusal tells a place of the path that isn't sound.
 
 ghost use Rattle.std.specs.Prelude.{◌≡◌, ◌+◌, ◌<◌, ◌≤◌, ℕ, List, IfErr, IfOk, IsTrue, OnOk, length};
 ghost use Rattle.base.specs.disk.Disk.{bytes_of};

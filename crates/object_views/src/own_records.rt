@@ -1,5 +1,5 @@
-//! What the log's records change of one object. The operations on the other objects are passed over: they change nothing
-//! of it, and it isn't asked whether they can take place.
+//! What the log's records change of one object. The operations on the other objects are passed over: they change
+//! nothing of it, and it isn't asked whether they can take place.
 
 ghost use Rattle.std.specs.Prelude.{◌≡◌, ◌∷◌, [], ℕ, List, Option, IfErr, IfOk, is_some};
 ghost use Rattle.base.specs.formats.Records.{IsAllowed};
@@ -29,10 +29,8 @@ fn is_on(op: &Op, id: ObjectId) -> bool
     ensures { result ≡ is_on id.0 op.now }
 {
     match op {
-        Op::Create(other)
-        | Op::Remove(other)
-        | Op::Write(other, _, _)
-        | Op::SetLength(other, _) => id.0 == other.0,
+        Op::Create(other) | Op::Remove(other) | Op::Write(other, _, _) | Op::SetLength(other, _) =>
+            id.0 == other.0,
         Op::SetName(_) => false,
     }
 }

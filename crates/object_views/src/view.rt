@@ -1,9 +1,10 @@
 //! One object of a pool as an import would mount it, found by reads alone: ranges of it are read, and nothing is
 //! written.
 //!
-//! Only the object's path is read, so no damage beside it is found. The object's own operations among the records of the
-//! log that an import would apply stay in memory as changes, and a read lays them over the blocks that it reads. What is
-//! in memory under a block's address is taken by no read: in a damaged tree it may be the block of another place.
+//! Only the object's path is read, so no damage beside it is found. The object's own operations among the records of
+//! the log that an import would apply stay in memory as changes, and a read lays them over the blocks that it reads.
+//! What is in memory under a block's address is taken by no read: in a damaged tree it may be the block of another
+//! place.
 
 ghost use Rattle.std.specs.Prelude.{◌≡◌, ◌≢◌, ◌<◌, ◌≤◌, ℕ, IfErr, IfOk, IsTrue};
 ghost use Rattle.base.specs.declared.error.PoolError.TheVariants as error;
@@ -47,8 +48,8 @@ pub struct ObjectView {
 /// directory. The bytes of the object's own log records stay in memory.
 ///
 /// # Errors
-/// In this order: `BadGeometry`, before any device call; `NoPool`; `Damaged` with the root or the object's directory, or
-/// with kind 6 and the address of the first block of the first log record whose operation on the object can't take
+/// In this order: `BadGeometry`, before any device call; `NoPool`; `Damaged` with the root or the object's directory,
+/// or with kind 6 and the address of the first block of the first log record whose operation on the object can't take
 /// place. `NoMemory` and `Read` when they happen.
 pub fn view_object<D: SectorDevice>(
     alloc: Global,
@@ -145,7 +146,8 @@ impl ObjectView {
             → object_of self.now < object_count → MountsTo image contents
             → result ≡ length_of contents (object_of self.now) }
     {
-        self.changes.length_over(self.object, length_of(&self.stored))
+        self.changes
+            .length_over(self.object, length_of(&self.stored))
     }
 
     /// The bytes of a range that lie below the object's length. Only the parts of records that they lie in are read,

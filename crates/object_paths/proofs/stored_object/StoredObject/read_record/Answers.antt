@@ -5,8 +5,8 @@ use Rattle.base.specs.declared.error.PoolError.{PoolError}
 use Rattle.base.specs.formats.Blocks.{Opens}
 use Rattle.base.proofs.tree.Strips.{record-count}
 use Rattle.object_maps.specs.BlockReads.{TellsBlock}
-use Rattle.trees.proofs.ObjectPaths.{place_missing}
 use Rattle.object_paths.specs.ReadPaths.{record_place}
+use Rattle.object_paths.proofs.TestedBlocks.{tells_missing}
 use Rattle.object_paths.proofs.ReadPlaces.{block_formless, block_read, block_sound, hole_read, hole_sound, size_at}
 use Rattle.object_paths.proofs.stored_object.StoredObject.read_record.Goals as goal
 
@@ -32,7 +32,7 @@ returns-in_err-read_block-clause-damage g c = λ keeps image root shows is at.
     let o = c.args.self.now in
     let p = err_from_is_err_and c.from_residual.result c.from_residual.ensures.1 in
     rw (p.1, p.2)
-    (place_missing image o.frame root (record_place o.id.0 c.args.index) c.args.pointer.now c.in_err-read_block.field-0.0 at (λ none. let no = c.if-is_none.ensures.1 none in cc)
+    (tells_missing image o.frame root (record_place o.id.0 c.args.index) c.args.pointer.now at (λ none. let no = c.if-is_none.ensures.1 none in cc) c.in_err-read_block.field-0.0
     (subst (λ (m : ℕ). TellsBlock image o.frame 5 (84 * m + c.args.index % 84) c.args.pointer.now c.in_err-read_block.field-0.0) c.strip_number-number.ensures.number (c.in_err-read_block.ensures.refused keeps image shows)))
 
 pub returns-then-not-are_zeros-clause-damage : goal.returns-then-not-are_zeros-clause-damage
