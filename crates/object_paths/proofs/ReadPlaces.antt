@@ -23,9 +23,8 @@ use Rattle.tree_blocks.specs.Forms.{AreRecordForms, AreStripForms}
 use Rattle.tree_blocks.specs.declared.forms.Entry.{Entry}
 use Rattle.trees.specs.ObjectPaths.{TellsPlace}
 use Rattle.trees.specs.Walking.{IsIndirectOf, IsObjectAt, IsTopOf}
-use Rattle.trees.proofs.WalkDamages.{same_payload, sound_at}
 use Rattle.trees.proofs.WalkParts.{first_strip, later_strips, no_top, records_linked, top_at, top_none, top_strips}
-use Rattle.object_paths.proofs.TestedBlocks.{padded, padded_zeros, tells_formless, tells_missing}
+use Rattle.object_paths.proofs.TestedBlocks.{one_payload, padded, padded_zeros, tells_formless, tells_missing, tested}
 use Rattle.object_paths.specs.ReadPaths.{AreRecordBytes, IsBlockMissing, IsPayloadRead, IsStripRead, IsTopRead, TellsStrip, record_place}
 
 -- a block is refused as a read is
@@ -81,7 +80,7 @@ module _ (image : List ℕ) (frame : Frame) (root : Pointer) (n : ℕ) (entry : 
           at = λ j inside. top_none image root n entry.length entry.pointer low of_top none.0 j inside ∙ sym (none.1 j inside);
         }
         | inr block ↦ record {
-          top = sound_at image frame root (Top n) entry.pointer payload (top_at image root n entry.length entry.pointer of_top) block.1
+          top = tested image frame root (Top n) entry.pointer payload (top_at image root n entry.length entry.pointer of_top) block.1
               (λ j within. subst (λ (s : ℕ). IsRecordPointerForm s (strip_start j) (pointer_in payload j)) (sym o.size_is) (formed j within));
           at = (top_strips image frame root n entry.length entry.pointer payload low of_top block.1).at;
         }
@@ -110,7 +109,7 @@ module _ (image : List ℕ) (frame : Frame) (root : Pointer) (n j size : ℕ) (p
       }
       | inr block ↦ record {
         top = top;
-        indirect = sound_at image frame root (Indirect (strip_number n j)) pointer payload i.at block.1
+        indirect = tested image frame root (Indirect (strip_number n j)) pointer payload i.at block.1
             (λ k within. subst (λ (s : ℕ). IsRecordPointerForm s (record_start (strip_number n j) k) (pointer_in payload k)) (sym i.size_is) (formed k within));
         at = (records_linked image frame root (strip_number n j) size pointer payload i block.1).at;
       }
@@ -148,7 +147,7 @@ module _ (image : List ℕ) (frame : Frame) (root : Pointer) (n r : ℕ) (low : 
           let held : List ℕ = padded_record (record_number (strip_number n (r / 84)) (r % 84)) bytes in
           let opened = subst (λ (p : Pointer). OpensAt image frame (record_place n r) p held) at o.1 in
           part_bytes r start bytes payload into within
-          (same_payload image frame 5 (84 * strip_number n (r / 84) + r % 84) pointer payload held opens opened ∙ ap (λ (q : ℕ). padded_record q bytes) number) copied
+          (one_payload image frame 5 (84 * strip_number n (r / 84) + r % 84) pointer payload held opens opened ∙ ap (λ (q : ℕ). padded_record q bytes) number) copied
 
       module _ (size count : ℕ) (size_is : length_in image root (object_of_indirect (strip_number n (r / 84))) ≡ size) (long : length payload ≡ 4032) (count_is : count ≡ min (size - 4032 * r) 4032) where
         counted : count ≡ min (size - record_start (strip_number n (r / 84)) (r % 84)) 4032
@@ -159,7 +158,7 @@ module _ (image : List ℕ) (frame : Frame) (root : Pointer) (n r : ℕ) (low : 
 
         pub block_sound : drop count payload ≡ replicate (length (drop count payload)) 0 → IsSoundAt image frame root (record_place n r)
         block_sound zeros =
-            sound_at image frame root (record_place n r) pointer payload at opens
+            tested image frame root (record_place n r) pointer payload at opens
             (subst (λ (s : ℕ). drop s payload ≡ replicate (record_size - s) 0) (sym past) (padded payload (size - record_start (strip_number n (r / 84)) (r % 84)) count long counted zeros))
 
         pub block_formless : (e : PoolError) → (drop count payload ≡ replicate (length (drop count payload)) 0 → ⊥) → e ≡ Damaged 5 pointer.address → TellsPlace image frame root (record_place n r) e

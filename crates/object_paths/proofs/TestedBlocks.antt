@@ -5,7 +5,7 @@ use Rattle.std.proofs.lemmas.List.{length-drop, drop_all}
 use Rattle.base.specs.declared.error.PoolError.{PoolError}
 use Rattle.base.specs.declared.error.PoolError.TheVariants.{Damaged}
 use Rattle.base.specs.declared.pointer.Pointer.{Pointer}
-use Rattle.base.specs.formats.Blocks.{Frame}
+use Rattle.base.specs.formats.Blocks.{Frame, Opens}
 use Rattle.base.specs.formats.Fields.{no_pointer}
 use Rattle.base.specs.formats.Limits.{record_size}
 use Rattle.base.specs.tree.Damages.{IsSoundAt, IsWellFormed}
@@ -14,7 +14,15 @@ use Rattle.base.specs.tree.Tree.{OpensAt}
 use Rattle.object_maps.specs.BlockReads.{TellsBlock}
 use Rattle.object_maps.proofs.BlockReads.{same-address, same-kind}
 use Rattle.trees.specs.ObjectPaths.{TellsPlace}
-use Rattle.trees.proofs.WalkDamages.{same_payload}
+
+-- a pointer names the block of one payload
+pub one_payload : (image : List ℕ) (frame : Frame) (kind number : ℕ) (pointer : Pointer) (a b : List ℕ) → Opens image frame kind number pointer a → Opens image frame kind number pointer b → a ≡ b
+one_payload image frame kind number pointer a b x y = sym x.block.payload_is ∙ y.block.payload_is
+
+-- a place with its block, and what the block holds well formed
+pub tested : (image : List ℕ) (frame : Frame) (root : Pointer) (place : Place) (pointer : Pointer) (payload : List ℕ) → pointer_of image root place ≡ pointer → OpensAt image frame place pointer payload
+    → IsWellFormed image frame root place payload → IsSoundAt image frame root place
+tested image frame root place pointer payload at opens formed = inr (payload, subst (λ (p : Pointer). OpensAt image frame place p payload) (sym at) opens, formed)
 
 module _ (image : List ℕ) (frame : Frame) (root : Pointer) (place : Place) (pointer : Pointer) (at : pointer_of image root place ≡ pointer) (named : pointer ≢ no_pointer) where
   unsound : ((payload : List ℕ) → OpensAt image frame place pointer payload → IsWellFormed image frame root place payload → ⊥) → IsSoundAt image frame root place → ⊥
@@ -35,7 +43,7 @@ module _ (image : List ℕ) (frame : Frame) (root : Pointer) (place : Place) (po
         same-kind (kind_of place) pointer.address kind address told,
         ap (λ (p : Pointer). p.address) at ∙ same-address (kind_of place) pointer.address kind address told,
         unsound (λ other opened formed. not (subst (λ (l : List ℕ). IsWellFormed image frame root place l)
-            (same_payload image frame (kind_of place) (number_of_place place) pointer other payload opened opens) formed)),
+            (one_payload image frame (kind_of place) (number_of_place place) pointer other payload opened opens) formed)),
       )
 
 -- past the object's end the payload of a record is zeros
