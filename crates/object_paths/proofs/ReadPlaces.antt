@@ -1,5 +1,5 @@
 -- What a block of an object's path that was read says of its place and of those below, and what its refusal tells.
-use Rattle.std.proofs.Common.{◌≡◌, ◌≢◌, ◌+◌, ◌-◌, ◌*◌, ◌/◌, ◌%◌, ◌<◌, ◌≤◌, ◌∙◌, ◌⊎◌, inl, inr, ℕ, List, length, take, drop, replicate, get_or, refl, sym, ap, subst, min, arith}
+use Rattle.std.proofs.Common.{◌≡◌, ◌≢◌, ◌+◌, ◌-◌, ◌*◌, ◌/◌, ◌%◌, ◌<◌, ◌≤◌, ◌∙◌, inl, inr, ℕ, List, length, take, drop, replicate, get_or, sym, ap, subst, min, arith}
 use lib.Dec.{eqb}
 use Rattle.std.specs.Option.{option_eq}
 use Rattle.std.specs.Prelude.{Option, Some, None, true}
@@ -12,11 +12,11 @@ use Rattle.base.specs.formats.Fields.{no_pointer, pointer_in}
 use Rattle.base.specs.formats.Limits.{object_count, pointer_count, record_count, record_size}
 use Rattle.base.specs.kept.PlacedTrees.{padded_record}
 use Rattle.base.specs.tree.Damages.{IsRecordPointerForm, IsSoundAt, length_in}
-use Rattle.base.specs.tree.Places.{Place, indirect_pointer, levels_in, object_of_indirect, pointer_of, record_number, record_start, strip_number, strip_start}
-use Rattle.base.specs.tree.Places.Place.{Data, Indirect, Top}
+use Rattle.base.specs.tree.Places.{indirect_pointer, levels_in, object_of_indirect, pointer_of, record_number, record_start, strip_number, strip_start}
+use Rattle.base.specs.tree.Places.Place.{Indirect, Top}
 use Rattle.base.specs.tree.Tree.{OpensAt, record_bytes}
 use Rattle.base.proofs.tree.LevelPointers.{pointer_below-none}
-use Rattle.base.proofs.tree.Strips.{first-strip, record-count, strip-low, strip-object}
+use Rattle.base.proofs.tree.Strips.{first-strip, strip-object}
 use Rattle.object_maps.specs.Cached.{IsBlockRefusal, IsReadRefusal}
 use Rattle.object_maps.proofs.ObjectReads.{hole_bytes, part_bytes, record_hole, record_opens}
 use Rattle.tree_blocks.specs.Forms.{AreRecordForms, AreStripForms}

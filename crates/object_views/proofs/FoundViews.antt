@@ -1,12 +1,11 @@
 -- What a view that is refused says of the image, and how a view that is made stands for it.
-use Rattle.std.proofs.Common.{◌≡◌, ◌≢◌, ◌<◌, ◌≤◌, ◌⊎◌, ◌∙◌, inl, inr, ℕ, List, [], Option, refl, sym, ap, subst, arith}
+use Rattle.std.proofs.Common.{◌≡◌, ◌≢◌, ◌≤◌, ◌⊎◌, ◌∙◌, inl, inr, ℕ, List, [], Option, refl, sym, subst, arith}
 use Rattle.std.specs.Prelude.{IfErr, IfSome, IsTrue, Some, None, Result, Ok, Err}
 use Rattle.base.specs.declared.error.PoolError.{PoolError}
 use Rattle.base.specs.declared.error.PoolError.TheVariants.{BadGeometry, Damaged, NoMemory, NoPool, Read}
 use Rattle.base.specs.disk.Disk.{bytes_of}
 use Rattle.base.specs.formats.Blocks.{Frame}
 use Rattle.base.specs.formats.Geometry.{IsGeometry, block_address, block_count}
-use Rattle.base.specs.formats.Limits.{object_count}
 use Rattle.base.specs.formats.Uberblocks.{Uberblock}
 use Rattle.base.specs.tree.Mount.{HasNoPool, HasPool, IsChainOf, MountsTo, records_above}
 use Rattle.base.specs.formats.Chain.{LogPiece}

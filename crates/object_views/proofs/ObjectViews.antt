@@ -1,45 +1,32 @@
 -- A view of an object has what the image mounts, and its reads have the bytes of sound blocks.
-use Rattle.std.proofs.Common.{◌≡◌, ◌≢◌, ℕ, ◌+◌, ◌-◌, ◌*◌, ◌/◌, ◌%◌, ◌<◌, ◌≤◌, ◌⊎◌, inl, inr, true, false, List, [], ◌∷◌, ◌++◌, length, get_or, Option, Some, None, Ok, refl, sym, ap, subst, ◌∙◌, arith, min, take, drop}
-use Rattle.std.specs.Prelude.{IfSome, is_some, not, option_map, unwrap_or, ◌||◌}
+use Rattle.std.proofs.Common.{◌≡◌, ℕ, ◌/◌, ◌%◌, ◌<◌, ◌≤◌, ◌⊎◌, inl, inr, true, List, [], ◌∷◌, ◌++◌, length, Option, Some, None, Ok, refl, sym, ap, subst, ◌∙◌, arith}
+use Rattle.std.specs.Prelude.{option_map}
 use Rattle.std.specs.FinMap as finite
-use Rattle.std.specs.FinMap.{FinMap}
-use Rattle.std.specs.Ordering.{nat_cmp}
 use Rattle.std.proofs.lemmas.Bool.{cases_lt, false≢true}
-use Rattle.std.proofs.Math.Bool.{or-true}
 use Rattle.base.specs.declared.error.PoolError.{PoolError}
 use Rattle.base.specs.declared.error.PoolError.TheVariants.{Damaged}
 use Rattle.base.specs.declared.operation.Op.{Op}
 use Rattle.base.specs.declared.pointer.Pointer.{Pointer}
 use Rattle.base.specs.formats.Blocks.{Frame}
 use Rattle.base.specs.formats.Chain.{LogPiece}
-use Rattle.base.specs.formats.Fields.{part}
 use Rattle.base.specs.formats.Limits.{max_length, object_count, record_count}
 use Rattle.base.specs.formats.Uberblocks.{Uberblock}
-use Rattle.base.specs.history.Contents.{Contents, length_of, stored}
+use Rattle.base.specs.history.Contents.{Contents, length_of}
 use Rattle.base.specs.tree.Damages.{IsSoundAt}
 use Rattle.base.specs.tree.Mount.{HasPool, IsChainOf, Mounts, MountsTo, apply_records, frame_of, header_of, records_above}
-use Rattle.base.specs.tree.Places.{IsPlace, Place, levels_in}
-use Rattle.base.specs.tree.Places.Place.{Data, Directory, Indirect, Root, Top}
-use Rattle.base.specs.tree.Tree.{IsTree}
+use Rattle.base.specs.tree.Places.{IsPlace, Place}
+use Rattle.base.specs.tree.Places.Place.{Directory, Root, Top}
 use Rattle.base.proofs.crash.OneMount.{one-active, one-chain}
-use Rattle.base.proofs.history.Objects.{get-stored_same}
 use Rattle.base.proofs.tree.SoundTrees.{sound}
 use Rattle.base.proofs.tree.Strips.{max-length, record-count, strip-low, strip-object}
 use Rattle.tree_blocks.specs.declared.forms.Entry.{Entry}
-use Rattle.tree_blocks.specs.Sources.{AreBytesFrom, object_bytes}
-use Rattle.trees.specs.ObjectPaths.{IsEntryFound, IsOnPath, TellsAbove, TellsPlace}
+use Rattle.trees.specs.ObjectPaths.{IsOnPath, TellsAbove, TellsPlace}
 use Rattle.trees.proofs.ObjectPaths.{tree_by_path}
-use Rattle.object_paths.specs.ReadPaths.{IsSoundObject, IsSoundRecord, TellsRecord, TellsStrip, indirect_place, record_place}
-use Rattle.extents.specs.declared.basis.Basis.{Basis}
-use Rattle.extents.specs.declared.basis.Basis.TheVariants.{Cut, Gone, Grown, Made}
-use Rattle.extents.specs.LaidReads.{LaysOnBelow}
-use Rattle.extents.specs.Objects.{HidesBelow}
-use Rattle.extents.specs.Patches.{is_shown, laid_over, length_over, patched}
-use Rattle.extents.specs.Tables.{patches_of}
-use Rattle.extents.proofs.LaidObjects.{get-laid_over}
+use Rattle.object_paths.specs.ReadPaths.{IsSoundObject, IsSoundRecord, TellsRecord, indirect_place, record_place}
+use Rattle.extents.specs.Patches.{length_over}
 use Rattle.extents.proofs.PatchedObjects.{patched_length}
 use Rattle.inspections.specs.PoolDamages.{IsOfNoDamage}
-use Rattle.object_views.specs.ObjectViews.{AreCheckedBytes, AreSeenBytes, AreStoredBytes, IsObjectViewOf, IsOwnDamage, IsStoredEntry, TellsBetween, TellsOwnDamage, bytes_of_range, is_own, length_of_entry, length_seen, object_of, patch_seen, seen_over}
+use Rattle.object_views.specs.ObjectViews.{IsObjectViewOf, IsStoredEntry, TellsBetween, TellsOwnDamage, length_of_entry, length_seen, object_of, patch_seen, seen_over}
 use Rattle.object_views.specs.OwnRecords.{IsOwnRefused, PlacedOp, TakePlace, can_take_place, object_after_all, ops_of, own_of_records}
 use Rattle.object_views.specs.declared.view.ObjectView.{ObjectView}
 use Rattle.object_views.proofs.OwnLaws.{own_suffice}

@@ -1,15 +1,14 @@
 -- An object is what its own operations make of it, and where records take place, so do these.
-use Rattle.std.proofs.Common.{◌≡◌, ℕ, true, false, List, [], ◌∷◌, ◌++◌, ◌⊎◌, inl, inr, Option, Some, None, Result, Ok, refl, sym, ap, subst, ◌∙◌}
-use Rattle.std.specs.Prelude.{Bool, ◌==◌, cond, is_some, not}
+use Rattle.std.proofs.Common.{◌≡◌, ℕ, true, false, List, [], ◌∷◌, ◌++◌, ◌⊎◌, inl, inr, Option, Some, None, Ok, refl, sym, ap, subst, ◌∙◌}
+use Rattle.std.specs.Prelude.{is_some, not}
 use Rattle.std.specs.FinMap as finite
 use Rattle.std.proofs.lemmas.Bool.{cases_Bool, eqb-true}
 use Rattle.std.proofs.lemmas.List.Sums.{fold-append}
-use Rattle.base.specs.declared.error.PoolError.{PoolError}
 use Rattle.base.specs.declared.operation.Op.{Op}
 use Rattle.base.specs.declared.operation.Op.TheVariants.{Create, Remove, Write, SetLength, SetName}
-use Rattle.base.specs.history.Contents.{Contents, apply, at_object, bytes_after_write, changed, created, object_after, removed, resize}
+use Rattle.base.specs.history.Contents.{Contents, apply, bytes_after_write, changed, created, object_after, removed, resize}
 use Rattle.base.specs.history.History.{apply_all}
-use Rattle.base.specs.tree.Mount.{Placed, apply_records}
+use Rattle.base.specs.tree.Mount.{apply_records}
 use Rattle.base.proofs.common.Sequences.{joined, parted}
 use Rattle.base.proofs.history.Objects.{reached}
 use Rattle.log_replay.proofs.AppliedRecords.{object_reached}

@@ -1,19 +1,17 @@
 -- The changes of an object's own operations grow operation by operation, up to the first that can't take place.
-use Rattle.std.proofs.Common.{◌≡◌, ℕ, ◌+◌, ◌<◌, ◌≤◌, true, false, List, [], ◌∷◌, ◌++◌, length, map, take, drop, get_or, inl, inr, Some, None, Ok, Err, refl, sym, subst, ap, ◌∙◌, arith, append-nil, append_assoc}
-use Rattle.std.specs.Prelude.{Bool, MatchResult, Option, Result, fold, is_some, nat_lt, option_map}
+use Rattle.std.proofs.Common.{◌≡◌, ℕ, ◌+◌, ◌<◌, true, false, List, [], ◌∷◌, ◌++◌, length, map, take, drop, get_or, inl, inr, Some, None, Ok, Err, refl, sym, subst, ap, ◌∙◌, append-nil, append_assoc}
+use Rattle.std.specs.Prelude.{Bool, Option, Result, is_some, nat_lt, option_map}
 use Rattle.std.specs.List.{flat_map}
 use Rattle.std.proofs.lemmas.Grind.{flat_map-append}
-use Rattle.std.proofs.lemmas.List.{map-append, take_all, take_more, take-append-drop}
+use Rattle.std.proofs.lemmas.List.{map-append, take_more, take-append-drop}
 use Rattle.std.proofs.lemmas.List.Elements.{filter-append}
-use Rattle.std.proofs.lemmas.List.Sums.{fold-append}
 use Rattle.base.specs.declared.error.PoolError.{PoolError}
-use Rattle.base.specs.declared.error.PoolError.TheVariants.{Damaged, NoMemory}
 use Rattle.base.specs.declared.operation.Op.{Op}
 use Rattle.base.specs.formats.Chain.{LogPiece}
 use Rattle.base.specs.history.Contents.{object_after}
 use Rattle.base.specs.tree.Mount.{Placed, records_above}
 use Rattle.extents.specs.declared.extents.Extents.{Extents}
-use Rattle.extents.specs.Patches.{ArePatchesOf, length_over, no_patch, patched}
+use Rattle.extents.specs.Patches.{length_over, no_patch, patched}
 use Rattle.extents.specs.Tables.{AppliesOps, patches_of}
 use Rattle.extents.proofs.PatchedObjects.{patched_length, patched_nothing}
 use Rattle.extents.proofs.SamePatches.{added_changes}
@@ -21,7 +19,7 @@ use Rattle.log_replay.specs.Walked.{above_at, placed_at}
 use Rattle.log_replay.proofs.WalkedRecords.{above-cons, above-next, above-passed, above-piece}
 use Rattle.records.specs.Records.{record_fields}
 use Rattle.records.specs.declared.record.Record.{Record}
-use Rattle.object_views.specs.OwnRecords.{AddsOwn, AreOwnChanges, ForLength, IsOwnRefusal, IsOwnRefused, PlacedOp, TakePlace, can_take_place, object_after_all, ops_of, own_of_records, own_op, own_ops}
+use Rattle.object_views.specs.OwnRecords.{AddsOwn, AreOwnChanges, ForLength, IsOwnRefusal, IsOwnRefused, PlacedOp, TakePlace, can_take_place, object_after_all, ops_of, own_of_records, own_ops}
 
 -- operations after others that take place
 pub take_place-append : (n : ℕ) (xs ys : List Op) (object : Option (List ℕ)) → TakePlace n xs object → TakePlace n ys (object_after_all n xs object) → TakePlace n (xs ++ ys) object

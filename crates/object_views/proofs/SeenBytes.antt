@@ -1,5 +1,5 @@
 -- What reads of a view give of an object, from the bytes of the object below its own records.
-use Rattle.std.proofs.Common.{◌≡◌, ◌≢◌, ℕ, ◌+◌, ◌-◌, ◌*◌, ◌/◌, ◌%◌, ◌<◌, ◌≤◌, ◌⊎◌, inl, inr, true, false, List, [], ◌∷◌, length, get_or, Option, Some, None, refl, sym, ap, subst, ◌∙◌, arith, min, take, drop, length-take, length-drop, get_or-take, get_or-drop}
+use Rattle.std.proofs.Common.{◌≡◌, ◌≢◌, ℕ, ◌+◌, ◌-◌, ◌*◌, ◌/◌, ◌<◌, ◌≤◌, ◌⊎◌, inl, inr, true, false, List, [], ◌∷◌, length, get_or, Option, Some, None, refl, sym, ap, subst, ◌∙◌, arith, min, drop, length-take, length-drop, get_or-take, get_or-drop}
 use Rattle.std.specs.Prelude.{Bool, IfSome, IsTrue, is_some, nat_le, nat_lt, not, option_map, unwrap_or, ◌||◌}
 use Rattle.std.specs.FinMap as finite
 use Rattle.std.specs.FinMap.{FinMap}
@@ -17,7 +17,7 @@ use Rattle.base.specs.history.Contents.{stored}
 use Rattle.base.specs.steps.Locks.{is_range_allowed}
 use Rattle.base.proofs.history.Objects.{get-stored_same}
 use Rattle.tree_blocks.specs.declared.forms.Entry.{Entry}
-use Rattle.tree_blocks.specs.Sources.{AreBytesFrom, object_bytes}
+use Rattle.tree_blocks.specs.Sources.{AreBytesFrom}
 use Rattle.trees.specs.ObjectPaths.{IsEntryFound}
 use Rattle.object_paths.specs.ReadPaths.{IsPartRead, IsSoundObject, IsSoundRecord, IsStripRead, OnObject, TellsRecord}
 use Rattle.object_paths.specs.declared.path_blocks.PathBlocks.{PathBlocks}

@@ -1,5 +1,5 @@
 -- What a view of one object has, and what its reads say of the image.
-use Rattle.std.specs.Prelude.{ℕ, ◌≡◌, ◌≢◌, ◌≤◌, ◌<◌, ◌+◌, ◌*◌, ◌-◌, ◌/◌, ◌⊎◌, ◌||◌, Bool, true, false, not, is_some, IfSome, IsTrue, List, [], get_or, length, None, Option, option_map, Some, unwrap_or}
+use Rattle.std.specs.Prelude.{ℕ, ◌≡◌, ◌≢◌, ◌≤◌, ◌<◌, ◌+◌, ◌-◌, ◌/◌, ◌⊎◌, ◌||◌, Bool, true, false, not, is_some, IfSome, IsTrue, List, [], length, None, Option, option_map, unwrap_or}
 use Rattle.base.specs.declared.error.PoolError.{PoolError}
 use Rattle.base.specs.declared.error.PoolError.TheVariants.{BadGeometry, BadRange, Damaged, NoObject, NoPool}
 use Rattle.base.specs.declared.range.Range.{Range}

@@ -1,7 +1,4 @@
-use Rattle.std.proofs.Common.{◌≡◌, ℕ, List, [], ◌∷◌, ◌⊎◌, inl, inr, true, sym, ◌∙◌, arith}
-use Rattle.std.proofs.lemmas.Bool.{false≢true}
 use Rattle.std.proofs.lemmas.Result.{IfOk-weaker}
-use Rattle.object_views.specs.ObjectViews.{is_own, object_of}
 use Rattle.object_views.proofs.SeenBytes.{none_checked}
 use Rattle.object_views.proofs.clients.a_record_that_is_not_sound_gives_no_byte.Goals as goal
 

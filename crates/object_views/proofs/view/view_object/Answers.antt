@@ -1,13 +1,13 @@
-use Rattle.std.proofs.Common.{◌≡◌, ◌<◌, ◌∙◌, ℕ, List, inl, refl, sym, ap, subst}
+use Rattle.std.proofs.Common.{◌≡◌, ◌∙◌, ℕ, List, inl, refl, sym, ap, subst}
 use Rattle.base.specs.disk.Disk.{Disk, bytes_of}
 use Rattle.base.specs.formats.Blocks.{Frame}
 use Rattle.base.specs.formats.Geometry.{IsGeometry, block_count}
-use Rattle.base.specs.tree.Mount.{HasPool, IsChainOf, frame_of}
+use Rattle.base.specs.tree.Mount.{IsChainOf, frame_of}
 use Rattle.trees.specs.ObjectPaths.{IsSoundAbove, TellsAbove}
 use Rattle.uberblocks.specs.Slots.{fields_of}
 use Rattle.import_replay.proofs.Reasons.{passed_on}
 use Rattle.import_replay.specs.ReadPools.{frame_with}
-use Rattle.object_views.specs.ObjectViews.{IsStoredEntry, IsViewingRefused}
+use Rattle.object_views.specs.ObjectViews.{IsStoredEntry}
 use Rattle.object_views.proofs.FoundViews.{refused_at_chain, refused_at_labels, refused_at_own, refused_at_tree, sound_refused}
 use Rattle.object_views.proofs.view.view_object.Goals as goal
 

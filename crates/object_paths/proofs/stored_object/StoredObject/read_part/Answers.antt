@@ -1,4 +1,4 @@
-use Rattle.std.proofs.Common.{◌≡◌, ◌∙◌, ◌%◌, ◌<◌, ℕ, ap, sym, inl, inr, arith}
+use Rattle.std.proofs.Common.{◌∙◌, ◌%◌, ◌<◌, ap, sym, inl, inr, arith}
 use Rattle.std.proofs.lemmas.Result.{err_from_is_err_and, IfErr-weaker, on_ok_weaker}
 use Rattle.base.specs.disk.Disk.{Disk, bytes_of}
 use Rattle.base.proofs.tree.Strips.{record-count}

@@ -1,7 +1,6 @@
 use Rattle.std.proofs.Common.{rules, ◌≡◌, ◌+◌, ◌-◌, ◌*◌, ◌/◌, ◌%◌, ◌<◌, ◌≤◌, ◌∙◌, ℕ, List, length, take, drop, refl, sym, ap, get_or, min, subst, arith}
 use Rattle.std.proofs.lemmas.List.{take_rest}
 use Rattle.std.proofs.lemmas.Result.{err_from_is_err_and}
-use Rattle.base.specs.declared.error.PoolError.{PoolError}
 use Rattle.base.specs.formats.Blocks.{Opens}
 use Rattle.base.proofs.tree.Strips.{record-count}
 use Rattle.object_maps.specs.BlockReads.{TellsBlock}

@@ -1,10 +1,10 @@
-use Rattle.std.proofs.Common.{rules, ◌≡◌, ◌+◌, ◌*◌, ◌/◌, ◌%◌, ◌<◌, ◌∙◌, ℕ, List, [], length, ap, sym, subst, arith, refl}
+use Rattle.std.proofs.Common.{rules, ◌≡◌, ◌+◌, ◌*◌, ◌/◌, ◌%◌, ◌<◌, ◌∙◌, ℕ, [], length, ap, sym, subst, arith, refl}
 use Rattle.std.specs.Prelude.{unwrap_or}
 use Rattle.std.proofs.lemmas.Result.{err_from_is_err_and}
 use Rattle.base.specs.disk.Disk.{Disk, bytes_of}
 use Rattle.base.proofs.tree.Strips.{record-count}
 use Rattle.object_reads.proofs.ReadParts.{read_more}
-use Rattle.object_views.specs.ObjectViews.{AreCheckedBytes, AreViewBlocks, TellsBetween, seen_over}
+use Rattle.object_views.specs.ObjectViews.{AreCheckedBytes, AreViewBlocks, seen_over}
 use Rattle.object_views.proofs.SeenBytes.{checked_more, none_read, stored_moved, told_between}
 use Rattle.object_views.proofs.view.ObjectView.read_bytes.Goals as goal
 
