@@ -11,7 +11,7 @@ use Rattle.base.specs.formats.Geometry.{IsGeometry}
 use Rattle.base.specs.history.Contents.{Contents}
 use Rattle.base.specs.tree.Mount.{MountsTo}
 use Rattle.device_model.specs.declared.device.SectorDevice.{Ghosts}
-use Rattle.device_model.specs.declared.held_file.FileRefusal.{FileRefusal}
+use Rattle.file_devices.specs.declared.held_file.FileRefusal.{FileRefusal}
 use Rattle.inspections.specs.Inspections.{IsInspectionOf}
 use Rattle.inspections.specs.declared.inspection.Inspected.{Inspected}
 use Rattle.read_commands.specs.Checks.{IsCheckRefusal, MountsWhole}

@@ -4,7 +4,7 @@ use Rattle.base.specs.declared.error.PoolError.{PoolError}
 use Rattle.base.specs.declared.range.Range.{Range}
 use Rattle.base.specs.disk.Disk.{bytes_of}
 use Rattle.device_model.specs.declared.device.SectorDevice.{Ghosts}
-use Rattle.device_model.specs.declared.held_file.FileRefusal.{FileRefusal}
+use Rattle.file_devices.specs.declared.held_file.FileRefusal.{FileRefusal}
 use Rattle.inspections.specs.Refused.{IsInspectionRefused}
 use Rattle.read_commands.specs.Checks.{IsCheckRefusal, MountsWhole}
 use Rattle.read_commands.specs.Failures.{IsFailureFor, failure_status}
