@@ -12,7 +12,7 @@ use Rattle.base.specs.formats.Chain.{LogPiece}
 use Rattle.base.proofs.formats.Geometry.{blocks-end}
 use Rattle.device_model.specs.declared.device.SectorDevice.{Ghosts}
 use Rattle.intent_log.specs.Chains.{IsChainRefusal}
-use Rattle.object_maps.specs.BlockReads.{IsLoadRefusal}
+use Rattle.object_maps.specs.Cached.{IsReadRefusal}
 use Rattle.tree_blocks.specs.declared.forms.Entry.{Entry}
 use Rattle.tree_blocks.specs.Forms.{IsEntryOf}
 use Rattle.import_replay.specs.ImportRefusals.{IsFindRefusal, IsWalkRefusal}
@@ -74,10 +74,9 @@ module _ {Dev : Type 0} (D : Ghosts Dev) (n : ℕ) where
         walked old new e sized (subst IsWalkRefusal (sym is) tt) none (λ keeps kind address no. absurd (let f : NoPool ≡ Damaged kind address = sym is ∙ no in cc))
 
     -- for the root or the object's directory
-    pub refused_at_tree : IsLoadRefusal e → (IsTrue D.keeps_model → (kind address : ℕ) → e ≡ Damaged kind address → TellsOwnDamage (bytes_of (D.disk old).now) n e kind address) → IsViewingRefused D n old new e
-    refused_at_tree (inl is) damaged = refused_plainly (inl is)
-    refused_at_tree (inr (inl is)) damaged = refused_plainly (inr is)
-    refused_at_tree (inr (inr (kind, address, is))) damaged =
+    pub refused_at_tree : IsReadRefusal e → (IsTrue D.keeps_model → (kind address : ℕ) → e ≡ Damaged kind address → TellsOwnDamage (bytes_of (D.disk old).now) n e kind address) → IsViewingRefused D n old new e
+    refused_at_tree (inl is) damaged = refused_plainly (inr is)
+    refused_at_tree (inr (kind, address, is)) damaged =
         walked old new e sized (subst IsWalkRefusal (sym is) tt) (λ keeps no. absurd (let f : Damaged kind address ≡ NoPool = sym is ∙ no in cc)) damaged
 
     pub refused_at_chain : IsChainRefusal e → IsViewingRefused D n old new e

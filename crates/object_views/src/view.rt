@@ -14,7 +14,7 @@ ghost use Rattle.base.specs.formats.Geometry.{block_address};
 ghost use Rattle.base.specs.history.Contents.{Contents};
 ghost use Rattle.base.specs.tree.Mount.{MountsTo};
 ghost use Rattle.device_model.specs.Reading.{OnlyReads};
-ghost use Rattle.object_maps.specs.BlockReads.{IsLoadRefusal};
+ghost use Rattle.object_maps.specs.Cached.{IsReadRefusal};
 ghost use Rattle.trees.specs.ObjectPaths.{IsSoundAbove, TellsAbove};
 ghost use Rattle.inspections.specs.PoolDamages.{IsOfNoDamage};
 ghost use Rattle.object_views.specs.ObjectViews.{FitsOn, IsObjectViewOf, IsStoredEntry, IsViewingRefused, length_of_entry, object_of};
@@ -108,7 +108,7 @@ fn find_stored<D: SectorDevice>(
 ) -> Result<Option<Entry>, PoolError>
     requires fits { block_address frame.now.blocks ≤ D.size device.old }
     ensures reads { OnlyReads D.SectorDevice result device.old device.new }
-    ensures cause { IfErr result IsLoadRefusal }
+    ensures cause { IfErr result IsReadRefusal }
     ensures stored { IsTrue D.keeps_model → IfOk result
         (IsStoredEntry (bytes_of (D.disk device.old).now) root object.0) }
     ensures sound { IsTrue D.keeps_model → object.0 < object_count → IfOk result
