@@ -12,6 +12,7 @@
 enum { THREADS = 8, COMMITS = 200, BIG = 60000, LONG = 5000000, PIECE = 1048576, READ_LONG = 3 * PIECE };
 
 static topzerad pool;
+static pid_t process; /* that answers */
 static uint8_t memory[TOPZERAD_MAX_RECORD], big[BIG], content[LONG], back[TOPZERAD_MAX_LENGTH];
 
 static void *commit_many(void *of) {
@@ -259,11 +260,11 @@ static void cancel_a_leader(void) {
     pthread_t thread;
     void *ended;
     char name[TOPZERAD_MAX_NAME + 1];
-    WANT(kill(pool.process, SIGSTOP) == 0);
+    WANT(kill(process, SIGSTOP) == 0);
     WANT(pthread_create(&thread, NULL, ask_name, NULL) == 0);
     nanosleep(&while_it_waits, NULL);
     WANT(pthread_cancel(thread) == 0);
-    WANT(kill(pool.process, SIGCONT) == 0);
+    WANT(kill(process, SIGCONT) == 0);
     WANT(pthread_join(thread, &ended) == 0 && ended == PTHREAD_CANCELED);
     WANT(topzerad_name(&pool, name) == 0 && strcmp(name, "pond") == 0);
 }
@@ -281,8 +282,7 @@ static void fork_with_an_open_pool(void) {
 
 int main(int count, char **words) {
     pthread_t threads[THREADS];
-    if (count != 3) return 2;
-    WANT(topzerad_open(&pool, words[1], words[2]) == 0);
+    process = open_pool(&pool, count, words);
     make_each_call();
     keep_limits();
     commit_many_at_once();

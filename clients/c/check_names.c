@@ -177,8 +177,7 @@ static void put_by_threads(void) {
 int main(int count, char **words) {
     topzerad_listed listed[TOPZERAD_OBJECTS];
     size_t objects;
-    if (count != 3) return 2;
-    WANT(topzerad_open(&pool, words[1], words[2]) == 0);
+    open_pool(&pool, count, words);
     name_objects();
     refuse_names();
     refuse_foreign_objects();

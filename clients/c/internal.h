@@ -6,7 +6,7 @@
 
 /* Frames: the bytes of their head and the most of all, their version, and their kinds. */
 enum { HEAD = 12, MAX_FRAME = 4194304, VERSION = 1 };
-enum { REQUESTS = 1, ANSWERS, REFUSED_FRAME, OPENED, UNOPENED };
+enum { REQUESTS = 1, ANSWERS, REFUSED_FRAME, OPENED, UNOPENED, HOLDING, READING_ON };
 
 enum { LAST_REFUSAL = 23 }; /* refusals of a pool have the numbers 1 to this one */
 
@@ -42,6 +42,9 @@ int topzerad_empty_out(topzerad *pool);
 int topzerad_take_in(topzerad *pool, void *to, size_t count, size_t *left);
 
 /* topzerad.c */
+
+/* Whether a hub lets no other program's frames in between those of this one. Without a hub nothing is to be done. */
+void topzerad_hold(topzerad *pool, int holds);
 
 /* Whether this process is a child of the one that opened the pool. Both have the socket then, and an answer goes to the
  * one that reads first. */

@@ -1,7 +1,7 @@
 /* Objects by name: the bytes of object 0 as a table of names (docs/FORMATS.md, "Names of objects").
  *
- * One thread at a time reads the table and changes it, under the pool's lock of names. So two threads that put one new
- * name make one object. Its memory is the pool's: first the hashes of the names, and then the record of the
+ * One thread at a time reads the table and changes it, under the pool's lock of names, and a hub lets one program at a
+ * time do so. So two that put one new name make one object. Its memory is the pool's: first the hashes of the names, and then the record of the
  * transaction. */
 #define _POSIX_C_SOURCE 200809L
 #include "internal.h"
@@ -193,6 +193,7 @@ static int put_named(topzerad *pool, const char *name, const uint8_t *bytes, siz
         tried = *object;
         refusal = put_first(pool, name, bytes, first, object);
     }
+    if (!refusal && count > first) topzerad_hold(pool, 0); /* other programs needn't wait for the rest */
     return refusal ? refusal : put_rest(pool, *object, first, bytes + first, count - first);
 }
 
@@ -254,10 +255,12 @@ static int begin(topzerad *pool, const char *name, int *state) {
     if (topzerad_is_forked(pool)) return TOPZERAD_FORKED;
     pthread_setcancelstate(PTHREAD_CANCEL_DISABLE, state);
     pthread_mutex_lock(&pool->naming);
+    topzerad_hold(pool, 1);
     return 0;
 }
 
 static int end(topzerad *pool, int state, int refusal) {
+    topzerad_hold(pool, 0);
     pthread_mutex_unlock(&pool->naming);
     pthread_setcancelstate(state, NULL);
     return refusal;

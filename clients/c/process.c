@@ -1,10 +1,11 @@
-/* The process that has a pool: it is started, says whether the pool is open, and is ended. One that makes a pool says
- * what came of it by its lines. */
+/* The process that has a pool: it is started, says whether the pool is open, and is ended. A hub that has one is
+ * connected to instead. A process that makes a pool says what came of it by its lines. */
 #undef _GNU_SOURCE /* strerror_r is that of POSIX */
 #define _POSIX_C_SOURCE 200809L
 #include "internal.h"
 
 #include <errno.h>
+#include <fcntl.h>
 #include <inttypes.h>
 #include <poll.h>
 #include <signal.h>
@@ -13,6 +14,7 @@
 #include <stdlib.h>
 #include <string.h>
 #include <sys/socket.h>
+#include <sys/un.h>
 #include <sys/wait.h>
 #include <time.h>
 #include <unistd.h>
@@ -129,6 +131,13 @@ static int start_process(pid_t *process, const char *const words[], int end, int
     return failed;
 }
 
+/* Puts an error of the system in words, after those for what it was met at. */
+static void set_system_cause(char *cause, const char *what, int error) {
+    char text[128] = "";
+    if (strerror_r(error, text, sizeof text)) text[0] = 0;
+    snprintf(cause, TOPZERAD_MAX_CAUSE + 1, "%s%s (os error %d)", what, text, error);
+}
+
 /* Starts a process with one end of a socket, and sets the other one. Returns 0, or an error number with its cause. */
 static int start(pid_t *process, int *end, const char *const words[], int with_errors, char *cause) {
     int ends[2];
@@ -140,9 +149,9 @@ static int start(pid_t *process, int *end, const char *const words[], int with_e
         *end = ends[0];
     }
     if (failed) {
-        char text[128] = "";
-        if (strerror_r(failed, text, sizeof text)) text[0] = 0;
-        snprintf(cause, TOPZERAD_MAX_CAUSE + 1, "%s can't be started: %s (os error %d)", words[0], text, failed);
+        char what[TOPZERAD_MAX_CAUSE - 160];
+        snprintf(what, sizeof what, "%s can't be started: ", words[0]);
+        set_system_cause(cause, what, failed);
     }
     return failed;
 }
@@ -233,14 +242,15 @@ static int read_opening(topzerad *pool) {
     return refusal_of(number, fields);
 }
 
-/* Ends the process of a pool that failed to open, and says why it did. */
+/* Ends the process of a pool that failed to open, or the connection to a hub, and says why it did. */
 static void give_up(topzerad *pool, int refusal) {
-    int status, error = errno;
+    int status = UNKNOWN_END, error = errno;
     close(pool->socket);
     pool->socket = -1;
-    int ended = end_process(pool->process, pool->is_late ? 0 : topzerad_now() + GRACE, &status);
+    int ended = pool->process && end_process(pool->process, pool->is_late ? 0 : topzerad_now() + GRACE, &status);
     if (refusal == TOPZERAD_NO_OPENING) {
         char end[64] = "the program said something else";
+        if (!pool->process) snprintf(end, sizeof end, "the connection was ended");
         if (ended) tell_end(status, end, sizeof end);
         snprintf(pool->cause, sizeof pool->cause, "%s before it said whether the pool is open", end);
     } else if (!pool->cause[0]) {
@@ -252,8 +262,9 @@ static void give_up(topzerad *pool, int refusal) {
 /* Begins a pool that isn't open yet. */
 static void begin(topzerad *pool) {
     pool->socket = -1;
+    pool->process = 0;
     pool->opener = getpid();
-    pool->led = pool->ended = pool->is_late = 0;
+    pool->led = pool->ended = pool->is_late = pool->holds = 0;
     pool->first = NULL;
     pool->last = &pool->first;
     pool->used = pool->taken = 0;
@@ -263,9 +274,8 @@ static void begin(topzerad *pool) {
     pool->cause[0] = 0;
 }
 
-/* Opens a pool that has begun, by a command line. */
-static int open_by(topzerad *pool, const char *const words[]) {
-    int failed = start(&pool->process, &pool->socket, words, 0, pool->cause);
+/* Reads the opening of a pool whose process was started, or whose hub was connected to, unless that failed. */
+static int take_opening(topzerad *pool, int failed) {
     if (failed) {
         pool->socket = -1;
         errno = failed;
@@ -287,7 +297,7 @@ static int open_by(topzerad *pool, const char *const words[]) {
 static int open_uncancelled(topzerad *pool, const char *const words[]) {
     int state;
     pthread_setcancelstate(PTHREAD_CANCEL_DISABLE, &state);
-    int refusal = open_by(pool, words);
+    int refusal = take_opening(pool, start(&pool->process, &pool->socket, words, 0, pool->cause));
     pthread_setcancelstate(state, NULL);
     return refusal;
 }
@@ -318,22 +328,85 @@ int topzerad_open(topzerad *pool, const char *program, const char *path) {
     return topzerad_open_options(pool, program, path, NULL);
 }
 
+/* Connects a socket that doesn't block. While the hub has too many that wait for it, it is tried again. Returns 0 or an
+ * error number. */
+static int connect_until(topzerad *pool, const struct sockaddr_un *address) {
+    struct timespec pause = {0, 1000000};
+    while (connect(pool->socket, (const struct sockaddr *)address, sizeof *address)) {
+        if (errno != EAGAIN && errno != EINTR) return errno;
+        if (topzerad_now() >= pool->deadline) {
+            pool->is_late = 1;
+            return ETIMEDOUT;
+        }
+        nanosleep(&pause, NULL);
+        if (pause.tv_nsec < 32000000) pause.tv_nsec *= 2;
+    }
+    return 0;
+}
+
+/* Makes a socket and connects it. Returns 0 or an error number. */
+static int connect_to(topzerad *pool, const char *path) {
+    struct sockaddr_un address = {.sun_family = AF_UNIX};
+    size_t count = strlen(path);
+    if (count >= sizeof address.sun_path) return ENAMETOOLONG;
+    memcpy(address.sun_path, path, count);
+    pool->socket = socket(AF_UNIX, SOCK_STREAM | SOCK_CLOEXEC | SOCK_NONBLOCK, 0);
+    if (pool->socket < 0) return errno;
+    int failed = connect_until(pool, &address);
+    if (!failed && fcntl(pool->socket, F_SETFL, 0) < 0) failed = errno;
+    if (failed) close(pool->socket);
+    return failed;
+}
+
+int topzerad_open_socket(topzerad *pool, const char *path, const topzerad_options *options) {
+    static const topzerad_options defaults;
+    int state;
+    if (!options) options = &defaults;
+    begin(pool);
+    int refusal = test_options(options, 1, pool->cause);
+    if (!refusal && (options->dirty || options->cache || options->moment || options->wait)) {
+        snprintf(pool->cause, sizeof pool->cause, "of a pool that a hub has the timeout alone can be set");
+        refusal = TOPZERAD_BAD_RANGE;
+    }
+    if (refusal) return refusal;
+    pool->timeout = timeout_of(options);
+    pool->deadline = deadline_of(options);
+    pthread_setcancelstate(PTHREAD_CANCEL_DISABLE, &state);
+    int failed = connect_to(pool, path);
+    if (failed) set_system_cause(pool->cause, "", failed);
+    refusal = take_opening(pool, failed);
+    pthread_setcancelstate(state, NULL);
+    return failed && pool->is_late ? TOPZERAD_TIMED_OUT : refusal;
+}
+
 topzerad_opening topzerad_opened(const topzerad *pool) { return pool->opening; }
 
 const char *topzerad_cause(const topzerad *pool) { return pool->cause; }
 
-/* After an exchange that was cut off the process may be sending what no one will read: it is told that, too. */
-static int close_uncancelled(topzerad *pool) {
-    int status;
-    shutdown(pool->socket, pool->ended ? SHUT_RDWR : SHUT_WR); /* it fails if the process is gone, as waitpid says */
-    int ended = end_process(pool->process, topzerad_deadline(pool->timeout), &status);
+/* Gives up what a pool has besides its process. */
+static void end_pool(topzerad *pool) {
     close(pool->socket);
     pool->socket = -1;
     pthread_mutex_destroy(&pool->lock);
     pthread_mutex_destroy(&pool->naming);
     pthread_cond_destroy(&pool->turn);
+}
+
+/* After an exchange that was cut off the process may be sending what no one will read: it is told that, too. */
+static int close_process(topzerad *pool) {
+    int status;
+    shutdown(pool->socket, pool->ended ? SHUT_RDWR : SHUT_WR); /* it fails if the process is gone, as waitpid says */
+    int ended = end_process(pool->process, topzerad_deadline(pool->timeout), &status);
+    end_pool(pool);
     if (!ended) return TOPZERAD_TIMED_OUT;
     return is_good_end(status) || (status == UNKNOWN_END && !pool->ended) ? 0 : TOPZERAD_ENDED;
+}
+
+/* A hub goes on, and syncs nothing at the end of a connection. So what was committed is made durable here. */
+static int close_connection(topzerad *pool) {
+    int refusal = topzerad_flush(pool);
+    end_pool(pool);
+    return refusal;
 }
 
 int topzerad_close(topzerad *pool) {
@@ -345,7 +418,7 @@ int topzerad_close(topzerad *pool) {
         return TOPZERAD_FORKED;
     }
     pthread_setcancelstate(PTHREAD_CANCEL_DISABLE, &state);
-    int refusal = close_uncancelled(pool);
+    int refusal = pool->process ? close_process(pool) : close_connection(pool);
     pthread_setcancelstate(state, NULL);
     return refusal;
 }

@@ -29,6 +29,7 @@ typedef struct topzerad_call {
     uint64_t values[7];       /* the numbers of its answer */
     uint64_t kind, address;   /* of a refusal: the block that is damaged */
     int refusal, committed, done;
+    int is_followed;          /* by a read that is of the same moment */
     struct topzerad_call *next;
 } call;
 
@@ -141,6 +142,9 @@ static int refusal_of(const topzerad_tx *tx) {
 
 static size_t size_of(const call *c) { return 9 + c->field_count + c->content_count; }
 
+/* Whether a read's range goes on after its piece. */
+static int goes_on(const call *c) { return c->low + c->most < c->high; }
+
 static int send_frame(topzerad *pool, const call *calls) {
     uint8_t head[HEAD], start[9];
     size_t size = HEAD;
@@ -148,7 +152,7 @@ static int send_frame(topzerad *pool, const call *calls) {
     for (const call *c = calls; c; c = c->next, count++) size += size_of(c);
     put(head, size, 4);
     put(head + 4, VERSION, 2);
-    put(head + 6, REQUESTS, 2);
+    put(head + 6, pool->kind, 2);
     put(head + 8, count, 4);
     pool->used = 0;
     if (topzerad_put_out(pool, head, HEAD)) return -1;
@@ -256,8 +260,12 @@ static int read_frame(topzerad *pool, call *calls) {
 
 /* Calls. */
 
-/* Whether a read's range goes on after its piece. */
-static int goes_on(const call *c) { return c->low + c->most < c->high; }
+/* The kind of a frame, by its last call. A hub is told that no other program's call may come before the next frame. */
+static uint16_t kind_of(const topzerad *pool, const call *last) {
+    if (pool->process) return REQUESTS;
+    if (pool->holds || last->is_followed) return HOLDING;
+    return goes_on(last) ? READING_ON : REQUESTS;
+}
 
 /* Takes the calls that fit one frame off the queue. */
 static call *take_calls(topzerad *pool) {
@@ -272,6 +280,7 @@ static call *take_calls(topzerad *pool) {
     pool->first = last->next;
     if (!pool->first) pool->last = &pool->first;
     last->next = NULL;
+    pool->kind = kind_of(pool, last);
     return first;
 }
 
@@ -489,6 +498,10 @@ int topzerad_read_many(topzerad *pool, topzerad_range *ranges, size_t count) {
     int first = 0;
     if (count > TOPZERAD_MAX_RANGES) return TOPZERAD_TOO_MANY;
     for (size_t i = 0; i < count; i++) calls[i] = new_read(&ranges[i]);
+    for (size_t i = count, last = 0; i--;) {
+        calls[i].is_followed = last && !calls[i].refusal;
+        if (!calls[i].refusal) last = 1;
+    }
     make_all(pool, calls, count);
     for (size_t i = 0; i < count; i++) {
         take_read(&ranges[i], &calls[i]);
@@ -554,6 +567,15 @@ int topzerad_sync(topzerad *pool, uint64_t *group) {
     int refusal = make(pool, &c);
     if (group) *group = c.values[0];
     return refusal;
+}
+
+void topzerad_hold(topzerad *pool, int holds) {
+    topzerad_status status;
+    if (pool->process) return;
+    pthread_mutex_lock(&pool->lock);
+    pool->holds = holds;
+    pthread_mutex_unlock(&pool->lock);
+    if (!holds) topzerad_state(pool, &status); /* a frame that doesn't hold the turn */
 }
 
 int topzerad_name(topzerad *pool, char name[TOPZERAD_MAX_NAME + 1]) {

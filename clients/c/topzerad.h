@@ -3,8 +3,8 @@
  * topzerad_transact commits a transaction: a power failure may lose it until a flush or a sync has returned.
  * topzerad_transact_durably returns once no power failure loses it.
  *
- * topzerad_open starts `PROGRAM serve FILE`, a process that has the pool. Calls are sent to it as frames
- * (docs/FRAMES.md). Any thread may make any call at any time. What several threads ask at once is sent in
+ * topzerad_open starts `PROGRAM serve FILE`, a process that has the pool. topzerad_open_socket uses a pool that several
+ * programs share by a hub, ztxg-hub. Calls are sent as frames (docs/FRAMES.md). Any thread may make any call at any time. What several threads ask at once is sent in
  * one frame, so their durable transactions share one flush. A thread isn't cancelled within a call, but after it.
  *
  * Each call returns 0 or a refusal; topzerad_text has its words. A refused transaction changes nothing. After
@@ -87,10 +87,11 @@ typedef struct {
 /* A pool that is open, in the caller's memory. Its fields are the library's. */
 typedef struct topzerad {
     int socket;
-    pid_t process, opener;
+    pid_t process, opener; /* no process, 0, if a hub has it */
     pthread_mutex_t lock;
     pthread_cond_t turn;
-    int led, ended, is_late;
+    int led, ended, is_late, holds;
+    uint16_t kind;
     struct topzerad_call *first, **last;
     uint64_t asked, timeout, deadline;
     topzerad_opening opening;
@@ -193,13 +194,17 @@ int topzerad_open(topzerad *pool, const char *program, const char *path);
 int topzerad_open_options(topzerad *pool, const char *program, const char *path, const topzerad_options *options);
 /* The same with a command line of the caller's, as {"ztxg", "serve", "tank.pool", "--wait", "10", NULL}. */
 int topzerad_open_with(topzerad *pool, const char *const words[]);
+/* Opens the pool of a hub that listens on a Unix socket. `options` may be NULL, and has the timeout alone. Returns 0;
+ * TOPZERAD_SYSTEM with errno if there is no hub, or it doesn't let the caller in (EACCES) or has as many clients as it
+ * may have (EAGAIN); TOPZERAD_BAD_RANGE for an option; TOPZERAD_TIMED_OUT; or TOPZERAD_NO_OPENING. */
+int topzerad_open_socket(topzerad *pool, const char *path, const topzerad_options *options);
 /* What the pool said when it was opened. */
 topzerad_opening topzerad_opened(const topzerad *pool);
 /* Why the open failed, in the program's words; empty if it didn't. */
 const char *topzerad_cause(const topzerad *pool);
 /* Ends the process once it has synced the pool, and waits for its end. TOPZERAD_ENDED if it did not end well.
  * TOPZERAD_TIMED_OUT if it didn't end within the timeout: it is killed then, and what was not durable may be lost. No
- * other call may run. If the caller ignores SIGCHLD, or waits for all its children, how the process ended isn't known.
+ * other call may run. A hub goes on: the close makes what was committed durable, as topzerad_flush does. If the caller ignores SIGCHLD, or waits for all its children, how the process ended isn't known.
  * It counts as a good end then, unless an earlier call returned TOPZERAD_ENDED or TOPZERAD_TIMED_OUT. After a fork the
  * child's call ends nothing: it gives up the child's end of the socket. */
 int topzerad_close(topzerad *pool);

@@ -1,0 +1,207 @@
+/* ztxg-hub: several processes share a pool. hub.h has its rules. */
+#define _GNU_SOURCE
+#include "hub.h"
+
+#include <errno.h>
+#include <limits.h>
+#include <stdio.h>
+#include <stdlib.h>
+#include <string.h>
+#include <sys/resource.h>
+
+enum { LISTENER, SERVER, FIRST_CLIENT };
+enum { OTHER_FILES = 16, NANOSECONDS_OF_A_MILLISECOND = 1000000 };
+
+/* The only one: the handler of signals needs it. */
+static hub the_hub;
+
+static void count_stop(int number) {
+    (void)number;
+    the_hub.stops++;
+}
+
+/* Lets a signal stop the hub while it waits, and never else. One that the hub's parent ignores stays ignored, but for
+ * SIGTERM. */
+static int stop_at(int number, sigset_t *blocked) {
+    struct sigaction before, action;
+    memset(&action, 0, sizeof action);
+    action.sa_handler = count_stop;
+    if (sigaction(number, NULL, &before)) return -1;
+    if (before.sa_handler == SIG_IGN && number != SIGTERM) return 0;
+    return sigaddset(blocked, number) || sigaction(number, &action, NULL) ? -1 : 0;
+}
+
+/* Blocks the signals that stop the hub, except while it waits. `open` is what is blocked then. */
+static int take_signals(sigset_t *open) {
+    sigset_t blocked;
+    sigemptyset(&blocked);
+    if (stop_at(SIGTERM, &blocked) || stop_at(SIGINT, &blocked) || stop_at(SIGHUP, &blocked)) return -1;
+    if (signal(SIGPIPE, SIG_IGN) == SIG_ERR) return -1;
+    return sigprocmask(SIG_BLOCK, &blocked, open);
+}
+
+/* Takes all memory that there will be. */
+static int take_memory(hub *h) {
+    size_t most = h->options.most;
+    h->memory = calloc(most + 2, MAX_FRAME);
+    h->clients = calloc(most, sizeof *h->clients);
+    h->polled = calloc(most + FIRST_CLIENT, sizeof *h->polled);
+    if (!h->memory || !h->clients || !h->polled) return -1;
+    h->server.out = h->memory + most * MAX_FRAME;
+    h->server.in = h->server.out + MAX_FRAME;
+    for (size_t i = 0; i < most; i++) {
+        h->clients[i].socket = -1;
+        h->clients[i].bytes = h->memory + i * MAX_FRAME;
+    }
+    return 0;
+}
+
+static void give_memory_back(hub *h) {
+    free(h->memory);
+    free(h->clients);
+    free(h->polled);
+}
+
+/* Lets the process have as many files as it needs, if it may. */
+static void raise_limit_of_files(const hub *h) {
+    struct rlimit limit;
+    rlim_t needed = h->options.most + OTHER_FILES;
+    if (getrlimit(RLIMIT_NOFILE, &limit) || limit.rlim_cur >= needed) return;
+    limit.rlim_cur = needed < limit.rlim_max ? needed : limit.rlim_max;
+    if (setrlimit(RLIMIT_NOFILE, &limit)) perror("ztxg-hub: setrlimit");
+}
+
+/* Stopping. */
+
+static void begin_stop(hub *h) {
+    h->is_stopping = 1;
+    hub_end_listening(h);
+}
+
+static void close_all(hub *h) {
+    for (size_t i = 0; i < h->options.most; i++) {
+        client *c = &h->clients[i];
+        if (c->stage == READING || c->stage == ANSWERING)
+            hub_close_client(h, c, NULL);
+        else if (c->stage != FREE)
+            c->is_gone = 1;
+    }
+}
+
+/* The server is gone: the clients lose their connections, but for those whose answers are being written. */
+static void lose_server(hub *h) {
+    h->server.is_gone = 1;
+    h->server.out_size = h->server.out_done = 0;
+    begin_stop(h);
+    h->holder = NULL;
+    h->waiting = (line){NULL, &h->waiting.first};
+    h->asked = (line){NULL, &h->asked.first};
+    for (size_t i = 0; i < h->options.most; i++) {
+        client *c = &h->clients[i];
+        if (c->stage != FREE && c->stage != ANSWERING) hub_close_client(h, c, NULL);
+    }
+}
+
+/* Takes in the signals that came. The first lets all that is under way end, and the second doesn't. */
+static void notice_stops(hub *h) {
+    if (h->stops && !h->is_stopping) begin_stop(h);
+    if (h->stops > 1) close_all(h);
+    hub_tend_clients(h, topzerad_now());
+    if (h->is_stopping && !h->count && !h->server.is_gone && !h->server.is_closing) hub_close_server(h);
+}
+
+/* Waiting. */
+
+/* What is waited for of a client. One that is gone is left alone until its frame was answered. */
+static struct pollfd polled_client(const client *c) {
+    short events = c->stage == READING ? POLLIN : c->stage == ANSWERING ? POLLOUT : 0;
+    return (struct pollfd){c->stage == FREE || c->is_gone ? -1 : c->socket, events, 0};
+}
+
+static void set_polled(hub *h, uint64_t now) {
+    const server *s = &h->server;
+    short out = s->out_done < s->out_size ? POLLOUT : 0;
+    h->polled[LISTENER] = (struct pollfd){now < h->pause ? -1 : h->listener, POLLIN, 0};
+    h->polled[SERVER] = (struct pollfd){s->is_gone ? -1 : s->socket, (short)(POLLIN | out), 0};
+    for (size_t i = 0; i < h->options.most; i++) h->polled[FIRST_CLIENT + i] = polled_client(&h->clients[i]);
+}
+
+/* When something is due that no file tells. */
+static uint64_t next_deadline(const hub *h, uint64_t now) {
+    uint64_t next = h->pause > now ? h->pause : NO_DEADLINE;
+    if (h->holder && h->hold_end < next) next = h->hold_end;
+    for (size_t i = 0; i < h->options.most; i++) {
+        const client *c = &h->clients[i];
+        if ((c->stage == READING || c->stage == ANSWERING) && c->deadline < next) next = c->deadline;
+    }
+    return next;
+}
+
+/* Waits for files, for a signal, or for the next deadline. */
+static int wait_for_files(hub *h, const sigset_t *open) {
+    uint64_t now = topzerad_now(), next = next_deadline(h, now);
+    uint64_t left = next > now ? next - now : NANOSECONDS_OF_A_MILLISECOND;
+    struct timespec time = {(time_t)(left / SECOND), (long)(left % SECOND)};
+    set_polled(h, now);
+    int ready = ppoll(h->polled, h->options.most + FIRST_CLIENT, next == NO_DEADLINE ? NULL : &time, open);
+    return ready < 0 && errno != EINTR ? -1 : ready;
+}
+
+static void serve_client(hub *h, client *c, short came) {
+    if (c->stage == READING && came)
+        hub_read_client(h, c);
+    else if (c->stage == ANSWERING && came)
+        hub_write_client(h, c);
+    else if (came & (POLLHUP | POLLERR))
+        hub_lose_client(h, c);
+}
+
+/* Does what can be done at once. An event of a slot is that of the client that was polled: clients come in last. */
+static void serve_files(hub *h) {
+    if (h->polled[SERVER].revents && hub_read_server(h)) lose_server(h);
+    for (size_t i = 0; i < h->options.most; i++) {
+        const struct pollfd *polled = &h->polled[FIRST_CLIENT + i];
+        client *c = &h->clients[i];
+        if (polled->revents && c->socket == polled->fd) serve_client(h, c, polled->revents);
+    }
+    if (h->polled[LISTENER].revents && h->listener >= 0) hub_let_in(h);
+}
+
+/* Runs until the server is gone and the last answer was written. */
+static int run(hub *h, const sigset_t *open) {
+    for (;;) {
+        notice_stops(h);
+        hub_make_batch(h);
+        if (!h->server.is_gone && hub_write_server(h)) lose_server(h);
+        if (h->server.is_gone && !h->count) return 0;
+        int ready = wait_for_files(h, open);
+        if (ready < 0 && errno != EINTR) return -1;
+        if (ready > 0) serve_files(h);
+    }
+}
+
+static int serve(hub *h) {
+    sigset_t open;
+    int status = hub_start_server(h);
+    if (status) return status;
+    status = take_signals(&open) ? hub_cannot_use("signals", NULL, errno) : hub_listen(h);
+    if (!status && run(h, &open)) status = hub_cannot_use("poll", NULL, errno);
+    hub_end_listening(h);
+    if (status) hub_close_server(h);
+    int ended = hub_end_server(h);
+    return status ? status : ended;
+}
+
+int main(int count, char **words) {
+    hub *h = &the_hub;
+    h->listener = h->server.socket = -1;
+    h->waiting.last = &h->waiting.first;
+    h->asked.last = &h->asked.first;
+    int status = hub_read_options(&h->options, count, words);
+    if (status < 0) status = hub_prepare(h);
+    if (status) return status;
+    raise_limit_of_files(h);
+    status = take_memory(h) ? hub_cannot_use("memory", NULL, errno) : serve(h);
+    give_memory_back(h);
+    return status;
+}
