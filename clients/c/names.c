@@ -193,7 +193,7 @@ static int put_named(topzerad *pool, const char *name, const uint8_t *bytes, siz
         tried = *object;
         refusal = put_first(pool, name, bytes, first, object);
     }
-    if (!refusal && count > first) topzerad_hold(pool, 0); /* other programs needn't wait for the rest */
+    if (!refusal && count > PUT_PIECE) topzerad_hold(pool, 0); /* other programs needn't wait for the rest */
     return refusal ? refusal : put_rest(pool, *object, first, bytes + first, count - first);
 }
 

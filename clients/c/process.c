@@ -402,9 +402,11 @@ static int close_process(topzerad *pool) {
     return is_good_end(status) || (status == UNKNOWN_END && !pool->ended) ? 0 : TOPZERAD_ENDED;
 }
 
-/* A hub goes on, and syncs nothing at the end of a connection. So what was committed is made durable here. */
+/* A hub goes on, and syncs nothing at the end of a connection. So what was committed is made durable here. A child of a
+ * fork may have the socket, too, so the hub is told of the end. */
 static int close_connection(topzerad *pool) {
     int refusal = topzerad_flush(pool);
+    shutdown(pool->socket, SHUT_RDWR);
     end_pool(pool);
     return refusal;
 }

@@ -3,7 +3,6 @@
 #include "hub.h"
 
 #include <errno.h>
-#include <stdio.h>
 #include <string.h>
 #include <sys/socket.h>
 #include <unistd.h>
@@ -41,11 +40,12 @@ void hub_add_client(hub *h, client *c, int socket, uid_t user, pid_t process) {
     hub_answer(h, c, OPENING_SIZE);
 }
 
+static void tell_of(const client *c, const char *what, const char *cause) {
+    hub_tell("%s a client of user %lu, process %ld: %s", what, (unsigned long)c->user, (long)c->process, cause);
+}
+
 void hub_close_client(hub *h, client *c, const char *cause) {
-    if (cause) {
-        fprintf(stderr, "ztxg-hub: closed a client of user %lu, process %ld: %s\n", (unsigned long)c->user,
-                (long)c->process, cause);
-    }
+    if (cause) tell_of(c, "closed", cause);
     if (h->holder == c) h->holder = NULL;
     close(c->socket);
     c->socket = -1;
@@ -98,8 +98,7 @@ void hub_write_client(hub *h, client *c) {
 
 /* The client can't be told apart from its bytes any more: it is refused, and then closed. */
 static void refuse_last(hub *h, client *c, const char *cause) {
-    fprintf(stderr, "ztxg-hub: refused a client of user %lu, process %ld: %s\n", (unsigned long)c->user,
-            (long)c->process, cause);
+    tell_of(c, "refused", cause);
     c->is_last = 1;
     hub_refuse_frame(h, c, CUT_OFF);
 }

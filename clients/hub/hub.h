@@ -99,6 +99,8 @@ typedef struct {
 
 /* options.c */
 
+/* Prints a line on standard error. */
+void hub_tell(const char *format, ...) __attribute__((format(printf, 1, 2)));
 /* Tells that a file or a socket can't be used, with the system's error number or 0. Returns the status for it. */
 int hub_cannot_use(const char *path, const char *cause, int error);
 /* Reads the command line. Returns -1, or the status to end with. */

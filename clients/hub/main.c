@@ -4,7 +4,6 @@
 
 #include <errno.h>
 #include <limits.h>
-#include <stdio.h>
 #include <stdlib.h>
 #include <string.h>
 #include <sys/resource.h>
@@ -68,7 +67,7 @@ static void raise_limit_of_files(const hub *h) {
     rlim_t needed = h->options.most + OTHER_FILES;
     if (getrlimit(RLIMIT_NOFILE, &limit) || limit.rlim_cur >= needed) return;
     limit.rlim_cur = needed < limit.rlim_max ? needed : limit.rlim_max;
-    if (setrlimit(RLIMIT_NOFILE, &limit)) perror("ztxg-hub: setrlimit");
+    if (setrlimit(RLIMIT_NOFILE, &limit)) hub_tell("the limit of files can't be raised");
 }
 
 /* Stopping. */

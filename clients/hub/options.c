@@ -5,6 +5,7 @@
 #include <errno.h>
 #include <getopt.h>
 #include <pwd.h>
+#include <stdarg.h>
 #include <stdio.h>
 #include <stdlib.h>
 #include <string.h>
@@ -43,18 +44,28 @@ static const struct option known[] = {
     {NULL, 0, NULL, 0},
 };
 
+/* There is no one to tell if standard error can't be written. */
+void hub_tell(const char *format, ...) {
+    va_list arguments;
+    va_start(arguments, format);
+    (void)fputs("ztxg-hub: ", stderr);
+    (void)vfprintf(stderr, format, arguments);
+    (void)fputc('\n', stderr);
+    va_end(arguments);
+}
+
 int hub_cannot_use(const char *path, const char *cause, int error) {
-    fprintf(stderr, "ztxg-hub: cannot use %s\n", path);
+    hub_tell("cannot use %s", path);
     if (cause)
-        fprintf(stderr, "ztxg-hub: cause: %s\n", cause);
+        hub_tell("cause: %s", cause);
     else
-        fprintf(stderr, "ztxg-hub: cause: %s (os error %d)\n", strerror(error), error);
+        hub_tell("cause: %s (os error %d)", strerror(error), error);
     return UNUSABLE;
 }
 
 /* Tells what is wrong with a word. */
 static int wrong(const char *option, const char *word, const char *wanted) {
-    fprintf(stderr, "ztxg-hub: %s %s: %s\n", option, word, wanted);
+    hub_tell("%s %s: %s", option, word, wanted);
     return BAD_LINE;
 }
 
@@ -134,7 +145,7 @@ int hub_read_options(options *o, int count, char **words) {
         if (status >= 0) return status;
     }
     if (optind != count - 1) {
-        fputs("ztxg-hub: one FILE is wanted; --help says more\n", stderr);
+        hub_tell("one FILE is wanted; --help says more");
         return BAD_LINE;
     }
     o->file = words[optind];

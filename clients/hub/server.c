@@ -3,9 +3,6 @@
 #include "hub.h"
 
 #include <errno.h>
-#include <fcntl.h>
-#include <stdio.h>
-#include <string.h>
 #include <sys/socket.h>
 #include <sys/wait.h>
 #include <time.h>
@@ -77,7 +74,7 @@ static size_t wanted(const server *s) {
 }
 
 static int no_answer(void) {
-    fputs("ztxg-hub: the server answered what is no answer\n", stderr);
+    hub_tell("the server answered what is no answer");
     return -1;
 }
 
@@ -122,7 +119,7 @@ int hub_end_server(hub *h) {
     close(h->server.socket);
     int status = wait_for_end(&h->server);
     if (WIFSIGNALED(status)) {
-        fprintf(stderr, "ztxg-hub: the server was ended by signal %d\n", WTERMSIG(status));
+        hub_tell("the server was ended by signal %d", WTERMSIG(status));
         return BY_SIGNAL + WTERMSIG(status);
     }
     if (!WEXITSTATUS(status) && !h->server.is_closing) return UNUSABLE;

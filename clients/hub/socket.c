@@ -136,7 +136,7 @@ static long number_of(const char *variable) {
 }
 
 static int is_listening(int file) {
-    struct sockaddr_un address;
+    struct sockaddr_un address = {0};
     socklen_t size = sizeof address, one = sizeof(int);
     int is = 0;
     if (getsockname(file, (struct sockaddr *)&address, &size) || address.sun_family != AF_UNIX) return 0;
@@ -161,7 +161,7 @@ int hub_prepare(hub *h) {
     int is_dead;
     if (number_of("LISTEN_PID") == (long)getpid()) return take_given(h);
     if (!h->options.path) {
-        fputs("ztxg-hub: --socket PATH is wanted\n", stderr);
+        hub_tell("--socket PATH is wanted");
         return BAD_LINE;
     }
     int failed = set_address(&address, h->options.path);
@@ -187,7 +187,7 @@ static void turn_away(int socket, int error, const char *cause) {
     put(frame + HEAD + 16, (uint64_t)error, 4);
     put(frame + HEAD + 20, count, 4);
     memcpy(frame + OPENING_SIZE, cause, count);
-    if (send(socket, frame, OPENING_SIZE + count, MSG_NOSIGNAL | MSG_DONTWAIT) < 0) perror("ztxg-hub: send");
+    if (send(socket, frame, OPENING_SIZE + count, MSG_NOSIGNAL | MSG_DONTWAIT) < 0) hub_tell("a client wasn't told: %s", cause);
     close(socket);
 }
 

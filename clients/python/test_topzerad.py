@@ -1,5 +1,6 @@
 """Tests of the client, on pools of their own: `python3 test_topzerad.py [PROGRAM [TEST ..]]`. Without words the
-stand-in takes the place of the program."""
+stand-in takes the place of the program. If TOPZERAD_HUB names the program of a hub, each pool that is made first has
+one."""
 
 import contextlib
 import copy
@@ -8,6 +9,7 @@ import pathlib
 import pickle
 import signal
 import struct
+import subprocess
 import sys
 import tempfile
 import threading
@@ -21,6 +23,7 @@ from topzerad.frames import READ, STATUS, TRANSACT
 from topzerad.turns import Call, Turns
 
 PROGRAM = str(pathlib.Path(__file__).resolve().parent.parent / "stand_in")
+HUB = os.environ.get("TOPZERAD_HUB")
 MIB = 1 << 20
 
 
@@ -45,11 +48,11 @@ def stopped(pool, timeout=None):
     """The process with the pool answers nothing meanwhile. The pool has this timeout then, and none before and after,
     since a busy machine is slow."""
     os.kill(pool.pid, signal.SIGSTOP)
-    pool._process._timeout = timeout
+    pool._server._timeout = timeout
     try:
         yield
     finally:
-        pool._process._timeout = None
+        pool._server._timeout = None
         os.kill(pool.pid, signal.SIGCONT)
 
 
@@ -67,6 +70,27 @@ def started(target, *words):
     return thread
 
 
+class SharedPool(Pool):
+    """A pool that a hub of its own has. The hub ends with it, and `pid` is its number."""
+
+    pid = 0
+
+    def __init__(self, path, **options):
+        place = path.with_suffix(".socket")
+        self.hub = subprocess.Popen([HUB, path, "--socket", place, "--program", PROGRAM])
+        self.pid = self.hub.pid
+        while not place.exists() and self.hub.poll() is None:
+            time.sleep(0.01)
+        super().__init__(socket=place, **options)
+
+    def close(self):
+        try:
+            super().close()
+        finally:
+            self.hub.terminate()
+            self.hub.wait()
+
+
 class OnPools(unittest.TestCase):
     def setUp(self):
         folder = tempfile.TemporaryDirectory()
@@ -77,7 +101,7 @@ class OnPools(unittest.TestCase):
     def open(self, **options):
         """A new pool."""
         create_pool(PROGRAM, self.path, "tank", 77, 64 * MIB)
-        return Pool(PROGRAM, self.path, **options)
+        return SharedPool(self.path, **options) if HUB else Pool(PROGRAM, self.path, **options)
 
     def refused(self, number, call, *words, **options):
         with self.assertRaises(topzerad.Refused) as caught:
@@ -329,7 +353,7 @@ class Names(OnPools):
             os.kill(pool.pid, signal.SIGKILL)
             with self.assertRaises(topzerad.Ended):
                 pool.close()
-        with Pool(PROGRAM, self.path) as pool:
+        with Pool(PROGRAM, self.path, wait=60) as pool:
             self.assertEqual(pool.names(), {"after": 3, "\u00e4\u20ac\U0001f600.txt": 4})
 
     def test_what_is_no_name(self):
@@ -510,7 +534,7 @@ class Ends(OnPools):
                 self.assertEqual([outcome_of(pool.status) for _ in range(2)], [topzerad.Ended] * 2)
                 raise KeyError  # the end of the `with` masks it by no error of its own
         with self.assertRaises(topzerad.Ended):
-            with Pool(PROGRAM, self.path) as pool:
+            with Pool(PROGRAM, self.path, wait=60) as pool:
                 os.kill(pool.pid, signal.SIGKILL)
 
     def test_a_child_of_a_fork(self):

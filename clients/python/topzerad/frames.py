@@ -12,7 +12,7 @@ T = TypeVar("T")
 
 HEAD = struct.Struct("<IHHI")
 VERSION, MAX_FRAME = 1, 4_194_304
-REQUESTS, ANSWERS, REFUSED, OPENED, UNOPENED = range(1, 6)
+REQUESTS, ANSWERS, REFUSED, OPENED, UNOPENED, HOLDING, READING_ON = range(1, 8)
 NOT_DURABLE = 11
 # What is kept of an answering frame for each answer, besides the bytes or the objects that it may have.
 LEAST_ROOM, LISTED_ROOM = 80, 12
@@ -155,10 +155,10 @@ SYNC: Kind[int] = Kind(9, lambda cursor: cursor.number(_U64))
 NAME: Kind[bytes] = Kind(10, Cursor.string)
 
 
-def requests_frame(first: int, requests: Sequence[Tuple[Kind[Any], bytes]]) -> bytes:
-    """The frame of requests, which have rising numbers from the first one on."""
-    items = b"".join(_REQUEST.pack(at, kind.number) + needs for at, (kind, needs) in enumerate(requests, first))
-    return HEAD.pack(HEAD.size + len(items), VERSION, REQUESTS, len(requests)) + items
+def requests_frame(first: int, requests: Sequence[Tuple[Kind[Any], bytes]], kind: int = REQUESTS) -> bytes:
+    """The frame of requests, which have rising numbers from the first one on. Its kind says whether it is followed."""
+    items = b"".join(_REQUEST.pack(at, call.number) + needs for at, (call, needs) in enumerate(requests, first))
+    return HEAD.pack(HEAD.size + len(items), VERSION, kind, len(requests)) + items
 
 
 class Frame(NamedTuple):

@@ -2,21 +2,26 @@
 
 from __future__ import annotations
 
+import contextlib
 import struct
 import threading
 from types import TracebackType
-from typing import Any, ContextManager, Dict, Iterable, List, Optional, Sequence, Type, TypeVar, Union, cast
+from typing import Any, ContextManager, Dict, Iterator, Iterable, List, Optional, Sequence, Type, TypeVar, Union, cast
 
-from .errors import EXISTS, NO_OBJECT, Broken, Error, Forked, Refused
+from .connection import LONGEST_WAIT, Hub, Path
+from .errors import EXISTS, NO_OBJECT, Broken, Error, Forked, Refused, bad_argument
 from .frames import (
     DURABLE,
     FLUSH,
+    HOLDING,
     LEAST_ROOM,
     LENGTH,
     LISTED_ROOM,
     NAME,
     OBJECTS,
     READ,
+    READING_ON,
+    REQUESTS,
     STATUS,
     SYNC,
     TRANSACT,
@@ -31,7 +36,7 @@ from .frames import (
 )
 from .name_table import NameTable, object_name
 from .operations import MAX_LENGTH, MAX_WRITE, OBJECT_COUNT, Bytes, Operation, fitted, record, write
-from .process import GREATEST, LONGEST_WAIT, Path, Process, option_words
+from .process import GREATEST, Process, option_words
 from .turns import Call, Turns
 
 T = TypeVar("T")
@@ -82,7 +87,8 @@ class Pool:
     """A pool that is open. Use it in a `with`, or `close` it. Any thread may make any call.
 
     `program` is `ztxg`, and `path` the pool's file. A process `PROGRAM serve FILE` has the pool until it is closed, and
-    no other process may use the file meanwhile. The options are those of `ztxg serve`:
+    no other process may use the file meanwhile. Or `socket` is the path of a hub, `ztxg-hub`, which several programs
+    share: then there is no program, and `timeout` is the only option. The options are those of `ztxg serve`:
 
     - `dirty`: the most bytes that unsynced transactions may be charged, the program's default if not given.
     - `cache`: the most blocks of 4,096 bytes that stay in memory, 1 to 4,096.
@@ -96,8 +102,8 @@ class Pool:
     A signal's handler must not make a call while its thread makes one: that is refused. An exception that a handler
     raises within a call breaks the connection: each later call raises `Broken`.
 
-    Raises `Refused` if the program refuses to open the pool, `FileUnusable` if the file can't be used or the program
-    not be started, `NoOpening` if the program ends without a word of the pool, and `TimedOut`.
+    Raises `Refused` if the program refuses to open the pool, `FileUnusable` if the file or the socket can't be used or
+    the program not be started, `NoOpening` if the program ends without a word of the pool, and `TimedOut`.
     """
 
     opened: Opened
@@ -105,9 +111,10 @@ class Pool:
 
     def __init__(
         self,
-        program: Path,
-        path: Path,
+        program: Optional[Path] = None,
+        path: Optional[Path] = None,
         *,
+        socket: Optional[Path] = None,
         dirty: Optional[int] = None,
         cache: Optional[int] = None,
         moment: Optional[int] = None,
@@ -115,12 +122,21 @@ class Pool:
         timeout: Optional[float] = None,
     ) -> None:
         options = [*option_words(dirty=dirty, cache=cache, moment=moment), *option_words(LONGEST_WAIT, wait=wait)]
+        if socket is not None and (program is not None or path is not None or options):
+            raise bad_argument("with a socket there is no program and no file, and the timeout is the only option")
         self._next = 0  # the number of the next request
         self._turns = Turns(self._ask)
         self._closing = threading.RLock()
         self._naming = threading.RLock()  # one thread at a time reads the table of names and changes it
-        self._process = Process(program, path, options, timeout)
-        self.opened = self._process.open(wait or 0)
+        self._holds = False  # whether no call of another program may come before the next frame
+        self._is_closed = False
+        if socket is not None:
+            self._server: Union[Hub, Process] = Hub(socket, timeout)
+        elif program is not None and path is not None:
+            self._server = Process(program, path, options, timeout)
+        else:
+            raise TypeError("a pool is opened by a program and a path, or by a socket")
+        self.opened = self._server.open(wait or 0)
 
     def __enter__(self) -> Pool:
         return self
@@ -140,19 +156,25 @@ class Pool:
         """Ends the process once it has synced the pool and answered the calls of other threads.
 
         Raises `Ended` if the process ended otherwise, with its status and what it printed. After the timeout it is
-        killed, and `TimedOut` is raised. In the child of a fork the parent's pool stays open.
+        killed, and `TimedOut` is raised. In the child of a fork the parent's pool stays open. A hub goes on: what was
+        committed is made durable, as by `flush`, and the connection is ended.
         """
-        if self._process.is_forked:
-            self._process.leave()
+        if self._server.is_forked:
+            self._server.leave()
             return
-        self._turns.stop(Broken("the pool is closed"))
         with self._closing:
-            self._process.end()
+            try:
+                if self._server.is_shared and not self._is_closed:
+                    self.flush()
+            finally:
+                self._is_closed = True
+                self._turns.stop(Broken("the pool is closed"))
+                self._server.end()
 
     @property
-    def pid(self) -> int:
-        """The number of the process that has the pool."""
-        return self._process.pid
+    def pid(self) -> Optional[int]:
+        """The number of the process that was started for the pool. There is none if a hub has it."""
+        return self._server.pid
 
     # Transactions
 
@@ -252,7 +274,8 @@ class Pool:
         fitted("the end of the bytes", len(view), MAX_LENGTH)
         with self._names_lock():
             first = view[:_LONG_PIECE]
-            number = self._start(name, first)
+            with self._turn():
+                number = self._start(name, first)
             try:
                 self.write_long(number, len(first), view[len(first) :])
             except Refused as refused:
@@ -263,25 +286,39 @@ class Pool:
     def get(self, name: Union[str, bytes]) -> bytes:
         """The bytes of the object of a name."""
         name = object_name(name)
-        with self._names_lock():
+        with self._names_lock(), self._turn():
             return self.read(self._name_table().find(name))
 
     def remove(self, name: Union[str, bytes]) -> None:
         """Removes the object of a name, and the name, by one transaction. It returns once no power failure undoes
         it."""
         name = object_name(name)
-        with self._names_lock():
+        with self._names_lock(), self._turn():
             self.transact_durably(self._name_table().end(name, self.objects()))
 
     def names(self) -> Dict[str, int]:
         """The numbers of the objects that have a name, by their names."""
-        with self._names_lock():
+        with self._names_lock(), self._turn():
             return {name.decode(): number for name, number in self._name_table().names.items()}
 
     def _names_lock(self) -> ContextManager[Any]:
         # In a child another thread of the parent may have had it at the fork.
         self._test_fork()
         return self._naming
+
+    @contextlib.contextmanager
+    def _turn(self) -> Iterator[None]:
+        """A hub lets no call of another program in between those within."""
+        if not self._server.is_shared:
+            yield
+            return
+        self._holds = True
+        try:
+            yield
+        finally:
+            self._holds = False
+            with contextlib.suppress(Error):
+                self.status()  # a frame that doesn't hold the turn
 
     def _name_table(self) -> NameTable:
         try:
@@ -337,14 +374,17 @@ class Pool:
         self._turns.make(calls)
 
     def _test_fork(self) -> None:
-        if self._process.is_forked:
+        if self._server.is_forked:
             raise Forked("the pool was opened before a fork, by the parent")
 
     def _ask(self, calls: List[Call[Any]]) -> List[Any]:
         """Makes the calls of one frame. The thread that leads calls it."""
         first, self._next = self._next, self._next + len(calls)
+        kind = REQUESTS
+        if self._server.is_shared:
+            kind = HOLDING if self._holds else READING_ON if calls[-1].goes_on else REQUESTS
         try:
-            frame = self._process.exchange(requests_frame(first, [(call.kind, call.needs) for call in calls]))
+            frame = self._server.exchange(requests_frame(first, [(call.kind, call.needs) for call in calls], kind))
             return read_answers(first, [call.kind for call in calls], frame)
         except Malformed:
             raise Broken("the process answered what is no answer to this call") from None

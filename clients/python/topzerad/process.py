@@ -1,4 +1,4 @@
-"""The program: a process that serves a pool, and one that makes a pool."""
+"""The program: a process of one's own that serves a pool, and one that makes a pool."""
 
 from __future__ import annotations
 
@@ -12,15 +12,12 @@ import tempfile
 import time
 from typing import Iterator, List, Optional, Union
 
-from .errors import Broken, Ended, Error, FileUnusable, NoOpening, Refused, TimedOut, bad_argument, unusable
-from .frames import HEAD, MAX_FRAME, VERSION, Frame, Malformed, Opened, read_opening
+from .connection import LONGEST_WAIT, Connection, Path, checked_timeout
+from .errors import Broken, Ended, Error, FileUnusable, NoOpening, Refused, TimedOut, unusable
+from .frames import Malformed, Opened, read_opening
 from .operations import checked_name, fitted
 
-Path = Union[str, bytes, "os.PathLike[str]", "os.PathLike[bytes]"]
-
-GREATEST, LONGEST_WAIT = 2**64 - 1, 86_400
-# A write to a process that is gone is an error, and no signal that ends the caller.
-_NO_SIGNAL = getattr(socket, "MSG_NOSIGNAL", 0)
+GREATEST = 2**64 - 1
 _IN_USE = "in use by another process or device"
 
 
@@ -36,12 +33,6 @@ def option_words(most: int = GREATEST, **options: Optional[int]) -> Iterator[str
         if value is not None:
             yield f"--{name}"
             yield str(fitted(name, value, most))
-
-
-def checked_timeout(seconds: float) -> float:
-    if not 0 < seconds <= LONGEST_WAIT:
-        raise bad_argument(f"timeout {seconds}: above 0, up to {LONGEST_WAIT}")
-    return seconds
 
 
 def not_started(program: Path, error: OSError) -> FileUnusable:
@@ -62,15 +53,13 @@ def described(status: Optional[int], said: str) -> str:
     return f"{how} ({'; '.join(said.splitlines())})" if said else how
 
 
-class Process:
+class Process(Connection):
     """A process `PROGRAM serve FILE`, and the socket to it. One thread at a time may call it.
 
     The process has a session of its own, so a Ctrl-C that ends the caller lets it sync the pool."""
 
     def __init__(self, program: Path, path: Path, options: List[str], timeout: Optional[float]) -> None:
-        self._opener = os.getpid()
-        self._timeout = None if timeout is None else checked_timeout(timeout)
-        self._received = bytearray()
+        super().__init__(timeout)
         self._path = file_word(path)
         self._errors = tempfile.TemporaryFile()
         self._socket, theirs = socket.socketpair()
@@ -94,13 +83,6 @@ class Process:
     def pid(self) -> int:
         return self._popen.pid
 
-    @property
-    def is_forked(self) -> bool:
-        """Whether the caller is a child of the process that opened the pool."""
-        return os.getpid() != self._opener
-
-    # Frames
-
     def open(self, wait: int) -> Opened:
         """Reads what the process says first. If the pool isn't open, the process is ended and its error raised. It may
         wait so many seconds for the file besides the timeout."""
@@ -121,45 +103,8 @@ class Process:
             self.kill()
             raise
 
-    def exchange(self, content: bytes) -> Frame:
-        """Sends a frame, and returns the one that answers it."""
-        try:
-            deadline = self._deadline()
-            self._wait_until(deadline)
-            self._socket.sendall(content, _NO_SIGNAL)
-            return self._receive(deadline)
-        except socket.timeout:
-            raise TimedOut(f"the process with the pool gave no answer in {self._timeout} seconds") from None
-        except ConnectionError:
-            raise self._ended(self._wait_a_little()) from None
-
-    def _deadline(self, besides: int = 0) -> Optional[float]:
-        return None if self._timeout is None else time.monotonic() + self._timeout + besides
-
-    def _wait_until(self, deadline: Optional[float]) -> None:
-        """Sets how long the next call of the socket may wait."""
-        left = None if deadline is None else deadline - time.monotonic()
-        if left is not None and left <= 0:
-            raise socket.timeout
-        self._socket.settimeout(left)
-
-    def _receive(self, deadline: Optional[float]) -> Frame:
-        size, version, kind, number = HEAD.unpack(self._take(HEAD.size, deadline))
-        if version != VERSION or not HEAD.size <= size <= MAX_FRAME:
-            raise Malformed
-        return Frame(kind, number, self._take(size - HEAD.size, deadline))
-
-    def _take(self, count: int, deadline: Optional[float]) -> bytes:
-        """So many bytes of what the process writes."""
-        while len(self._received) < count:
-            self._wait_until(deadline)
-            more = self._socket.recv(max(count - len(self._received), 65_536))
-            if not more:
-                raise ConnectionResetError
-            self._received += more
-        content = bytes(self._received[:count])
-        del self._received[:count]
-        return content
+    def _lost(self) -> Ended:
+        return self._ended(self._wait_a_little())
 
     # The end
 

@@ -8,7 +8,10 @@ use std::io::{self, Read};
 const MAX_FRAME: usize = 4_194_304;
 const HEAD: usize = 12;
 const VERSION: u16 = 1;
-const REQUESTS: u16 = 1;
+/// Requests; those that hold a hub's turn for the next frame; and those that do so if the last read gets all its bytes.
+pub(crate) const REQUESTS: u16 = 1;
+pub(crate) const HOLDING: u16 = 6;
+pub(crate) const READING_ON: u16 = 7;
 const ANSWERS: u16 = 2;
 const REFUSED_FRAME: u16 = 3;
 const OPEN: u16 = 4;
@@ -253,12 +256,12 @@ fn end_of_piece(low: u64, high: u64) -> u64 {
 }
 
 /// A frame of requests, whose numbers rise from `first` on.
-pub(crate) fn requests_frame(first: u64, requests: &[&Request]) -> Vec<u8> {
+pub(crate) fn requests_frame(kind: u16, first: u64, requests: &[&Request]) -> Vec<u8> {
     let size = requests.iter().map(|request| request.size()).fold(HEAD, usize::saturating_add);
     let mut frame = Vec::with_capacity(size);
     frame.extend((size as u32).to_le_bytes());
     frame.extend(VERSION.to_le_bytes());
-    frame.extend(REQUESTS.to_le_bytes());
+    frame.extend(kind.to_le_bytes());
     frame.extend((requests.len() as u32).to_le_bytes());
     for (number, request) in (first..).zip(requests) {
         frame.extend(number.to_le_bytes());
@@ -465,7 +468,7 @@ mod tests {
         let request = Request::Transact(record);
         let frame = "30000000 0100 0100 01000000 0200000000000000 01\
                      1b000000 0000000000000000 0000000000000000 0100 01 01000000";
-        assert_eq!(requests_frame(2, &[&request]), bytes_of(frame));
+        assert_eq!(requests_frame(REQUESTS, 2, &[&request]), bytes_of(frame));
         let committed = "25000000 0100 0200 01000000 0200000000000000 01 0300000000000000 0900000000000000";
         let read = |digits: &str, first| {
             let frame = bytes_of(digits);

@@ -5,7 +5,7 @@
 //!
 //! [`Pool::open`] starts `PROGRAM serve FILE`, a process that has the pool, and asks it by frames
 //! (`docs/FRAMES.md`). It ends when the pool is closed or dropped. What several threads ask at once goes in one frame, so their
-//! durable transactions share a flush.
+//! durable transactions share a flush. [`Pool::open_socket`] uses a pool that several programs share.
 //!
 //! ```no_run
 //! use topzerad::{Op, Pool};
@@ -49,11 +49,13 @@ pub use options::{CreateOptions, Options};
 
 use frames::{Answer, Outcome, Request, Sizes};
 use name_table::{check_name, NameTable};
-use server::{Connection, Server};
+use server::{Connection, Holds, Server};
 use std::collections::BTreeMap;
 use std::ffi::OsStr;
 use std::fmt;
 use std::mem;
+use std::path::Path;
+use std::sync::atomic::Ordering;
 use std::sync::{Mutex, MutexGuard, PoisonError};
 use turns::Turns;
 
@@ -129,6 +131,30 @@ pub struct Pool {
     opener: u32,
     /// Held by the thread that reads and changes the table of names.
     naming: Mutex<()>,
+    /// None unless a hub has the pool.
+    holds: Option<Holds>,
+}
+
+/// The turn of a thread that reads and changes the table of names. A hub lets no call of another program in between.
+struct Turn<'a> {
+    pool: &'a Pool,
+    _naming: MutexGuard<'a, ()>,
+}
+
+impl Turn<'_> {
+    /// Lets other programs in: a frame that doesn't hold the turn follows.
+    fn let_others_in(&self) {
+        if self.pool.holds.as_ref().map_or(false, |holds| holds.swap(false, Ordering::SeqCst)) {
+            // If it isn't answered, the next call says so.
+            let _ = self.pool.status();
+        }
+    }
+}
+
+impl Drop for Turn<'_> {
+    fn drop(&mut self) {
+        self.let_others_in();
+    }
 }
 
 impl Pool {
@@ -140,6 +166,15 @@ impl Pool {
     /// Those of [`Options::open`].
     pub fn open(program: impl AsRef<OsStr>, file: impl AsRef<OsStr>) -> Result<Pool, Error> {
         Options::new().open(program, file)
+    }
+
+    /// Opens the pool of a hub, `ztxg-hub`, that listens on a Unix socket, and that other programs use, too.
+    ///
+    /// # Errors
+    ///
+    /// Those of [`Options::open_socket`].
+    pub fn open_socket(path: impl AsRef<Path>) -> Result<Pool, Error> {
+        Options::new().open_socket(path)
     }
 
     /// Makes a pool of `size` bytes in a new file by `program create`. A file that is there is refused.
@@ -159,7 +194,8 @@ impl Pool {
 
     pub(crate) fn of_server(server: Server, opened: Opened) -> Pool {
         let turns = Turns::new(server.connection());
-        Pool { turns, server: Some(server), opened, opener: std::process::id(), naming: Mutex::new(()) }
+        let holds = server.holds();
+        Pool { turns, server: Some(server), opened, opener: std::process::id(), naming: Mutex::new(()), holds }
     }
 
     /// What the open found.
@@ -286,9 +322,10 @@ impl Pool {
     pub fn put(&self, name: &str, bytes: &[u8]) -> Result<u32, Error> {
         check_name(name)?;
         record::check_end(0, bytes).map_err(|cause| Error::out_of_bounds(Refusal::BadRange, cause))?;
-        let _naming = self.naming()?;
+        let turn = self.naming()?;
         let (first, rest) = bytes.split_at(bytes.len().min(WRITE as usize));
         let object = self.put_first(name, first)?;
+        turn.let_others_in();
         match self.write_long(object, WRITE, rest) {
             Ok(()) => Ok(object),
             Err(Error::CutShort { committed, error }) => Err(error.after(first.len() + committed as usize)),
@@ -303,7 +340,7 @@ impl Pool {
     /// `NoObject`; `BadRange` if the name is none, or object 0 of another use.
     pub fn get(&self, name: &str) -> Result<Vec<u8>, Error> {
         check_name(name)?;
-        let _naming = self.naming()?;
+        let _turn = self.naming()?;
         self.read(self.name_table()?.find(name)?, 0, MAX_LENGTH)
     }
 
@@ -314,7 +351,7 @@ impl Pool {
     /// Those of [`get`](Pool::get) and [`transact_durably`](Pool::transact_durably).
     pub fn remove(&self, name: &str) -> Result<(), Error> {
         check_name(name)?;
-        let _naming = self.naming()?;
+        let _turn = self.naming()?;
         let change = self.name_table()?.change_for_removal(name, &self.objects(0, OBJECTS)?)?;
         self.transact_durably(&change.remove()).map(drop)
     }
@@ -325,13 +362,17 @@ impl Pool {
     ///
     /// `BadRange` if object 0 is of another use.
     pub fn names(&self) -> Result<BTreeMap<String, u32>, Error> {
-        let _naming = self.naming()?;
+        let _turn = self.naming()?;
         self.name_table().map(NameTable::into_names)
     }
 
-    fn naming(&self) -> Result<MutexGuard<'_, ()>, Error> {
+    fn naming(&self) -> Result<Turn<'_>, Error> {
         self.test_opener()?;
-        Ok(self.naming.lock().unwrap_or_else(PoisonError::into_inner))
+        let naming = self.naming.lock().unwrap_or_else(PoisonError::into_inner);
+        if let Some(holds) = &self.holds {
+            holds.store(true, Ordering::SeqCst);
+        }
+        Ok(Turn { pool: self, _naming: naming })
     }
 
     fn name_table(&self) -> Result<NameTable, Error> {
@@ -356,10 +397,12 @@ impl Pool {
         }
     }
 
-    /// Ends the process once it has synced the pool, and waits for its end. A drop does the same and tells no error.
+    /// Ends the process once it has synced the pool, and waits for its end. A drop does the same and tells no error. A
+    /// hub goes on: what was committed is made durable, as by [`flush`](Pool::flush), and the connection is ended.
     ///
     /// # Errors
     ///
+    /// Those of [`flush`](Pool::flush) if a hub has the pool.
     /// `BadEnd` if the process did not end with status 0. `TimedOut` if it did not end within the timeout of
     /// [`Options`], and was killed. `Forked` in a child of the process that opened the pool: nothing is ended then.
     pub fn close(mut self) -> Result<(), Error> {
@@ -369,7 +412,9 @@ impl Pool {
     fn end(&mut self) -> Result<(), Error> {
         let server = self.server.take();
         self.test_opener()?;
+        let flushed = if self.holds.is_some() { self.turns.ask(Request::Flush).map(drop) } else { Ok(()) };
         let status = server.map_or(Ok(None), |mut server| server.end())?;
+        flushed?;
         match status {
             Some(status) if !status.success() => Err(Error::BadEnd(status)),
             None if self.turns.found_the_end() => Err(Error::Ended),

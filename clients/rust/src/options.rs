@@ -4,6 +4,7 @@ use crate::server::{self, Server};
 use crate::{Error, Pool, Refusal};
 use std::ffi::OsStr;
 use std::io;
+use std::path::Path;
 use std::process::{Command, ExitStatus};
 use std::time::Duration;
 
@@ -86,6 +87,22 @@ impl Options {
         command.arg("--").arg(file);
         let mut server = Server::start(command, self.timeout).map_err(Error::System)?;
         let opened = server.read_opening(self.wait)?;
+        Ok(Pool::of_server(server, opened))
+    }
+
+    /// Opens the pool of a hub, `ztxg-hub`, that listens on a Unix socket. The timeout is the only option.
+    ///
+    /// # Errors
+    ///
+    /// `Unusable` if there is no hub, or if it doesn't let the caller in (`PermissionDenied`) or has as many clients as
+    /// it may have (`WouldBlock`). `Refused` by `BadRange` for another option. `NoOpening`, `BadAnswer`, `TimedOut`.
+    pub fn open_socket(&self, path: impl AsRef<Path>) -> Result<Pool, Error> {
+        if self.dirty.is_some() || self.cache.is_some() || self.moment.is_some() || !self.wait.is_zero() {
+            let cause = "of a pool that a hub has the timeout alone can be set".to_owned();
+            return Err(Error::out_of_bounds(Refusal::BadRange, cause));
+        }
+        let mut server = Server::connect(path.as_ref().to_owned(), self.timeout)?;
+        let opened = server.read_opening(Duration::ZERO)?;
         Ok(Pool::of_server(server, opened))
     }
 }

@@ -1,4 +1,4 @@
-//! The process that has a pool, and the socket between it and this one.
+//! The process that has a pool, one of its own or a hub that others share, and the socket between it and this one.
 
 use crate::error::Broken;
 use crate::frames::{self, Outcome, Request};
@@ -8,8 +8,10 @@ use std::io::{self, Read, Write};
 use std::net::Shutdown;
 use std::os::unix::io::OwnedFd;
 use std::os::unix::net::UnixStream;
+use std::path::PathBuf;
 use std::process::{Child, Command, ExitStatus, Stdio};
-use std::sync::Arc;
+use std::sync::atomic::{AtomicBool, Ordering};
+use std::sync::{mpsc, Arc};
 use std::thread;
 use std::time::{Duration, Instant};
 
@@ -21,11 +23,16 @@ const GRACE: Duration = Duration::from_secs(1);
 const FIRST_SLEEP: Duration = Duration::from_millis(1);
 const LONGEST_SLEEP: Duration = Duration::from_millis(20);
 
-/// A process `PROGRAM serve FILE`.
+/// Whether a hub lets no call of another program come before the next frame.
+pub(crate) type Holds = Arc<AtomicBool>;
+
+/// A process `PROGRAM serve FILE`, or a hub, which isn't ended here.
 pub(crate) struct Server {
-    process: Child,
+    process: Option<Child>,
     stream: Arc<UnixStream>,
     timeout: Option<Duration>,
+    /// None unless a hub has the pool.
+    holds: Option<Holds>,
 }
 
 impl Server {
@@ -34,7 +41,28 @@ impl Server {
         let (ours, theirs) = UnixStream::pair()?;
         command.stdin(OwnedFd::from(theirs.try_clone()?)).stdout(OwnedFd::from(theirs));
         // The command has the other end until it is dropped, which is before the first read.
-        Ok(Server { process: command.spawn()?, stream: Arc::new(ours), timeout })
+        Ok(Server { process: Some(command.spawn()?), stream: Arc::new(ours), timeout, holds: None })
+    }
+
+    /// Connects to a hub.
+    pub(crate) fn connect(path: PathBuf, timeout: Option<Duration>) -> Result<Server, Error> {
+        let stream = match timeout {
+            None => UnixStream::connect(path),
+            Some(time) => {
+                // A connect blocks while too many wait for the hub. So another thread makes it.
+                let (done, wait) = mpsc::channel();
+                thread::spawn(move || done.send(UnixStream::connect(path)));
+                wait.recv_timeout(time).map_err(|_| Error::TimedOut)?
+            }
+        };
+        let unusable = |source: io::Error| Error::Unusable { cause: source.to_string(), source: Some(source) };
+        let stream = Arc::new(stream.map_err(unusable)?);
+        Ok(Server { process: None, stream, timeout, holds: Some(Holds::default()) })
+    }
+
+    /// What tells a hub to let no other program in; None if none has the pool.
+    pub(crate) fn holds(&self) -> Option<Holds> {
+        self.holds.clone()
     }
 
     /// Reads what the process says first. It may wait so long for the file besides. If no pool is open, it is ended.
@@ -49,17 +77,23 @@ impl Server {
             }
             Err(Broken::Ended) => Err(Error::NoOpening(self.end_by(deadline_in(GRACE)).unwrap_or(None))),
             Err(broken) => {
-                kill(&mut self.process)?;
+                self.process.as_mut().map_or(Ok(()), kill)?;
                 Err(broken.of_asked())
             }
         }
     }
 
     pub(crate) fn connection(&self) -> Connection {
-        Connection { stream: Arc::clone(&self.stream), timeout: self.timeout, next_number: 0 }
+        Connection {
+            stream: Arc::clone(&self.stream),
+            timeout: self.timeout,
+            holds: self.holds.clone(),
+            next_number: 0,
+        }
     }
 
-    /// Ends the input of the process, and waits for its end. After the timeout it is killed.
+    /// Ends the input of the process, and waits for its end. After the timeout it is killed. Of a hub the connection is
+    /// ended.
     pub(crate) fn end(&mut self) -> Result<Option<ExitStatus>, Error> {
         self.end_by(self.timeout.and_then(deadline_in))
     }
@@ -67,9 +101,13 @@ impl Server {
     fn end_by(&mut self, deadline: Option<Instant>) -> Result<Option<ExitStatus>, Error> {
         // It fails if the process is gone, as its status says.
         let _ = self.stream.shutdown(Shutdown::Write);
+        let process = match &mut self.process {
+            Some(process) => process,
+            None => return Ok(None),
+        };
         // The process waits until an answer that was cut off is read.
         let _ = io::copy(&mut Timed { stream: &self.stream, deadline }, &mut io::sink());
-        wait(&mut self.process, deadline)
+        wait(process, deadline)
     }
 }
 
@@ -134,7 +172,20 @@ fn deadline_in(time: Duration) -> Option<Instant> {
 pub(crate) struct Connection {
     stream: Arc<UnixStream>,
     timeout: Option<Duration>,
+    holds: Option<Holds>,
     next_number: u64,
+}
+
+impl Connection {
+    /// The kind of a frame. A process that no other program shares needs to hold nothing.
+    fn kind_of(&self, requests: &[&Request]) -> u16 {
+        match &self.holds {
+            None => frames::REQUESTS,
+            Some(holds) if holds.load(Ordering::SeqCst) => frames::HOLDING,
+            Some(_) if requests.last().map_or(false, |last| last.goes_on()) => frames::READING_ON,
+            Some(_) => frames::REQUESTS,
+        }
+    }
 }
 
 impl Exchange for Connection {
@@ -142,7 +193,7 @@ impl Exchange for Connection {
         let first = self.next_number;
         self.next_number += requests.len() as u64;
         let mut timed = Timed { stream: &self.stream, deadline: self.timeout.and_then(deadline_in) };
-        timed.write_all(&frames::requests_frame(first, requests))?;
+        timed.write_all(&frames::requests_frame(self.kind_of(requests), first, requests))?;
         frames::read_answers(&mut timed, first, requests)
     }
 }

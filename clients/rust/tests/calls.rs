@@ -1,5 +1,5 @@
-//! Makes each call on a pool without objects that is named tank: in TOPZERAD_FILE by TOPZERAD_PROGRAM, or by the
-//! stand-in in memory.
+//! Makes each call on a pool without objects that is named tank: that of the hub on TOPZERAD_SOCKET, or in TOPZERAD_FILE
+//! by TOPZERAD_PROGRAM, or by the stand-in in memory.
 
 mod common;
 
@@ -7,6 +7,9 @@ use common::{program, refusal, text};
 use topzerad::{Error, Listed, Op, Pool, Refusal, MAX_LENGTH, OBJECTS};
 
 fn open() -> Pool {
+    if let Some(socket) = std::env::var_os("TOPZERAD_SOCKET") {
+        return Pool::open_socket(socket).unwrap();
+    }
     let file = std::env::var_os("TOPZERAD_FILE").unwrap_or_else(|| "-".into());
     Pool::open(program(), file).unwrap()
 }
