@@ -197,7 +197,8 @@ int main(int count, char **words) {
     h->waiting.last = &h->waiting.first;
     h->asked.last = &h->asked.first;
     int status = hub_read_options(&h->options, count, words);
-    if (status < 0) status = hub_prepare(h);
+    if (status >= 0) return status;
+    status = hub_prepare(h);
     if (status) return status;
     raise_limit_of_files(h);
     status = take_memory(h) ? hub_cannot_use("memory", NULL, errno) : serve(h);
