@@ -1,6 +1,6 @@
 # Builds and installs Topzerad, by GNU make.
 #
-## make               the program ztxg, and the library for C. Its crates are built without a proof, in minutes
+## make               the program ztxg, the library for C, and the hub. Its crates are built without a proof, in minutes
 ## make PROVED=1      the same with the program that the prover made; proves all crates first if a source is newer
 ## make install       puts them below PREFIX, /usr/local if not given. DESTDIR is put before all its paths
 ## make uninstall     removes what that put there
@@ -20,6 +20,7 @@ DATADIR ?= $(PREFIX)/share
 MANDIR ?= $(DATADIR)/man
 PKGCONFIGDIR ?= $(LIBDIR)/pkgconfig
 COMPLETIONDIR ?= $(DATADIR)/bash-completion/completions
+UNITDIR ?= $(DATADIR)/topzerad
 PLUGINDIR ?= $(LIBDIR)/nbdkit/plugins
 INSTALL ?= install
 PYTHON ?= python3
@@ -34,6 +35,9 @@ SONAME = libtopzerad.so.$(basename $(VERSION))
 SHARED = libtopzerad.so.$(VERSION)
 PLUGIN = $(BUILD)/nbdkit/topzerad-plugin.so
 HAS_NBDKIT = $(CC) $(CPPFLAGS) -include nbdkit-plugin.h -E -x c /dev/null > /dev/null 2>&1
+HAS_HUB = echo '\#include <sys/socket.h>' | $(CC) $(CPPFLAGS) -D_GNU_SOURCE -dM -E -x c - 2> /dev/null \
+	| grep -q SO_PEERCRED
+HUB = $(BUILD)/hub
 in_prefix = $(patsubst $(PREFIX)/%,$${prefix}/%,$(1))
 
 RELEASE = topzerad-$(VERSION)-x86_64-linux
@@ -46,9 +50,11 @@ EPOCH = $(or $(SOURCE_DATE_EPOCH),$(shell git log -1 --format=%ct 2> /dev/null |
 FOLDERS = $(BINDIR) $(LIBDIR) $(PKGCONFIGDIR) $(INCLUDEDIR) $(MANDIR)/man1 $(MANDIR)/man3 $(COMPLETIONDIR)
 INSTALLED = $(BINDIR)/ztxg $(MANDIR)/man1/ztxg.1 $(MANDIR)/man3/topzerad.3 $(COMPLETIONDIR)/ztxg \
 	$(INCLUDEDIR)/topzerad.h $(addprefix $(LIBDIR)/,libtopzerad.a libtopzerad.so $(SONAME) $(SHARED)) \
-	$(PKGCONFIGDIR)/topzerad.pc $(PLUGINDIR)/nbdkit-topzerad-plugin.so
+	$(PKGCONFIGDIR)/topzerad.pc $(PLUGINDIR)/nbdkit-topzerad-plugin.so \
+	$(addprefix $(BINDIR)/,ztxg-hub ztxg-ctl) $(addprefix $(MANDIR)/man1/,ztxg-hub.1 ztxg-ctl.1) \
+	$(addprefix $(UNITDIR)/ztxg-hub@.,service socket)
 
-all: $(ZTXG) library plugin
+all: $(ZTXG) library hub plugin
 
 ifneq ($(filter-out 0,$(PROVED)),)
 $(BUILD)/ztxg: $(PROVED_ZTXG)
@@ -71,6 +77,10 @@ $(PROVED_ZTXG): $(SOURCES)
 library:
 	$(MAKE) -C clients/c OUT=$(abspath $(BUILD))/c
 
+hub:
+	@if $(HAS_HUB); then $(MAKE) -C clients/hub OUT=$(abspath $(HUB)); \
+	else echo "skipped the hub: the system has no SO_PEERCRED"; fi
+
 plugin:
 	@if $(HAS_NBDKIT); then $(MAKE) -C clients/nbdkit OUT=$(abspath $(BUILD))/nbdkit; \
 	else echo "skipped the plugin of nbdkit: nbdkit-plugin.h isn't installed"; fi
@@ -89,6 +99,12 @@ install: all
 	sed -e 's|@PREFIX@|$(PREFIX)|' -e 's|@LIBDIR@|$(call in_prefix,$(LIBDIR))|' -e 's|@VERSION@|$(VERSION)|' \
 		-e 's|@INCLUDEDIR@|$(call in_prefix,$(INCLUDEDIR))|' clients/c/topzerad.pc.in > $(BUILD)/topzerad.pc
 	$(INSTALL) -m 644 $(BUILD)/topzerad.pc $(DESTDIR)$(PKGCONFIGDIR)
+	if [ -f $(HUB)/ztxg-hub ]; then \
+		$(INSTALL) -m 755 $(HUB)/ztxg-hub $(HUB)/ztxg-ctl $(DESTDIR)$(BINDIR) && \
+		$(INSTALL) -m 644 docs/ztxg-hub.1 docs/ztxg-ctl.1 $(DESTDIR)$(MANDIR)/man1 && \
+		sed -e 's|@BINDIR@|$(BINDIR)|g' clients/hub/ztxg-hub@.service > $(HUB)/ztxg-hub@.service && \
+		$(INSTALL) -d $(DESTDIR)$(UNITDIR) && \
+		$(INSTALL) -m 644 $(HUB)/ztxg-hub@.service clients/hub/ztxg-hub@.socket $(DESTDIR)$(UNITDIR); fi
 	[ ! -f $(PLUGIN) ] || $(INSTALL) -D -m 755 $(PLUGIN) $(DESTDIR)$(PLUGINDIR)/nbdkit-topzerad-plugin.so
 	[ -n "$(DESTDIR)" ] || ldconfig 2> /dev/null || :
 
@@ -133,4 +149,4 @@ help:
 	@sed -n 's/^## \{0,1\}//p' Makefile
 
 .DELETE_ON_ERROR:
-.PHONY: all library plugin install uninstall is_proved dist deb check gate clean help
+.PHONY: all library hub plugin install uninstall is_proved dist deb check gate clean help

@@ -1,8 +1,8 @@
 /* Objects by name: the bytes of object 0 as a table of names (docs/FORMATS.md, "Names of objects").
  *
  * One thread at a time reads the table and changes it, under the pool's lock of names, and a hub lets one program at a
- * time do so. So two that put one new name make one object. Its memory is the pool's: first the hashes of the names, and then the record of the
- * transaction. */
+ * time do so. So two that put one new name make one object. Its memory is the pool's: first the hashes of the names,
+ * and then the record of the transaction. */
 #define _POSIX_C_SOURCE 200809L
 #include "internal.h"
 

@@ -4,8 +4,9 @@
  * topzerad_transact_durably returns once no power failure loses it.
  *
  * topzerad_open starts `PROGRAM serve FILE`, a process that has the pool. topzerad_open_socket uses a pool that several
- * programs share by a hub, ztxg-hub. Calls are sent as frames (docs/FRAMES.md). Any thread may make any call at any time. What several threads ask at once is sent in
- * one frame, so their durable transactions share one flush. A thread isn't cancelled within a call, but after it.
+ * programs share by a hub, ztxg-hub. Calls are sent as frames (docs/FRAMES.md). Any thread may make any call at any
+ * time. What several threads ask at once is sent in one frame, so their durable transactions share one flush. A thread
+ * isn't cancelled within a call, but after it.
  *
  * Each call returns 0 or a refusal; topzerad_text has its words. A refused transaction changes nothing. After
  * TOPZERAD_WRITE and TOPZERAD_FLUSH the pool is suspended: close it and open it again. All memory is the caller's: the
@@ -204,9 +205,10 @@ topzerad_opening topzerad_opened(const topzerad *pool);
 const char *topzerad_cause(const topzerad *pool);
 /* Ends the process once it has synced the pool, and waits for its end. TOPZERAD_ENDED if it did not end well.
  * TOPZERAD_TIMED_OUT if it didn't end within the timeout: it is killed then, and what was not durable may be lost. No
- * other call may run. A hub goes on: the close makes what was committed durable, as topzerad_flush does. If the caller ignores SIGCHLD, or waits for all its children, how the process ended isn't known.
- * It counts as a good end then, unless an earlier call returned TOPZERAD_ENDED or TOPZERAD_TIMED_OUT. After a fork the
- * child's call ends nothing: it gives up the child's end of the socket. */
+ * other call may run. A hub goes on: the close makes what was committed durable, as topzerad_flush does. If the caller
+ * ignores SIGCHLD, or waits for all its children, how the process ended isn't known. It counts as a good end then,
+ * unless an earlier call returned TOPZERAD_ENDED or TOPZERAD_TIMED_OUT. After a fork the child's call ends nothing: it
+ * gives up the child's end of the socket. */
 int topzerad_close(topzerad *pool);
 
 /* Commits a transaction. A power failure may lose it until topzerad_flush or topzerad_sync has returned. The receipt

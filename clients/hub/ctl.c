@@ -1,4 +1,5 @@
-/* ztxg-ctl: looks at a pool that a hub has, and changes it. Texts and statuses are those of `ztxg` (docs/COMMANDS.md). */
+/* ztxg-ctl: looks at a pool that a hub has, and changes it. Texts and statuses are those of `ztxg`
+ * (docs/COMMANDS.md). */
 #define _GNU_SOURCE
 #include "../c/topzerad.h"
 
@@ -307,8 +308,8 @@ static int print_status(run *r) {
     if (!refusal) refusal = topzerad_state(&r->pool, &s);
     if (!refusal) refusal = topzerad_objects(&r->pool, 0, TOPZERAD_OBJECTS, r->listed, &count);
     if (refusal) return refused(r, refusal, NULL);
-    printf("name %s\nguid %" PRIu64 "\ngroup %" PRIu64 "\nobjects %zu\n", name, topzerad_opened(&r->pool).guid, s.synced,
-           count);
+    uint64_t guid = topzerad_opened(&r->pool).guid;
+    printf("name %s\nguid %" PRIu64 "\ngroup %" PRIu64 "\nobjects %zu\n", name, guid, s.synced, count);
     return output_failed();
 }
 

@@ -1,7 +1,7 @@
 /* hub.h: what the files of ztxg-hub share.
  *
- * One thread waits by poll for the listening socket, the server and the clients. A client has one frame at a time: it is
- * read whole, waits, is asked, and its answer is written whole before the next one is read. So each client has one
+ * One thread waits by poll for the listening socket, the server and the clients. A client has one frame at a time: it
+ * is read whole, waits, is asked, and its answer is written whole before the next one is read. So each client has one
  * buffer, and all memory is taken at the start.
  *
  * 1. Frames that wait go to the server in the order in which they became whole, as many as fit one frame of its own.

@@ -71,7 +71,8 @@ def kills(tests):
         hub = Hub(tests, "--wait", "60", folder=folder)
         if folder is None:
             with Pool(socket=hub.path) as pool:
-                pool.transact_durably([create(at) for at in range(WRITERS)] + [write(at, 0, bytes(8)) for at in range(WRITERS)])
+                for at in range(WRITERS):
+                    pool.transact_durably([create(at), write(at, 0, bytes(8))])
         folder = hub.folder
         writers = [Writer(hub.path, at, counts[at]) for at in range(WRITERS)]
         time.sleep(chance.random() * 0.4)

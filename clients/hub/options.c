@@ -98,7 +98,8 @@ static int read_limit(options *o, int option, const char *word) {
         if (read_number(word, 8, 0, 0777, &number)) return wrong("--mode", word, "0 to 777");
         o->mode = (unsigned)number;
     } else if (option == MAX_CLIENTS) {
-        if (read_number(word, 10, LEAST_CLIENTS, MOST_CLIENTS, &number)) return wrong("--max-clients", word, "1 to 256");
+        if (read_number(word, 10, LEAST_CLIENTS, MOST_CLIENTS, &number))
+            return wrong("--max-clients", word, "1 to 256");
         o->most = number;
     } else {
         if (read_number(word, 10, 1, MOST_TIMEOUT, &number)) return wrong("--timeout", word, "1 to 86400 seconds");

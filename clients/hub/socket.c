@@ -148,7 +148,8 @@ static int take_given(hub *h) {
     const char *name = "the given socket";
     if (number_of("LISTEN_FDS") != 1) return hub_cannot_use(name, "one socket has to be given", 0);
     if (!is_listening(GIVEN)) return hub_cannot_use(name, "it is no Unix socket that listens", 0);
-    if (fcntl(GIVEN, F_SETFD, FD_CLOEXEC) || fcntl(GIVEN, F_SETFL, O_NONBLOCK)) return hub_cannot_use(name, NULL, errno);
+    if (fcntl(GIVEN, F_SETFD, FD_CLOEXEC) || fcntl(GIVEN, F_SETFL, O_NONBLOCK))
+        return hub_cannot_use(name, NULL, errno);
     if (unsetenv("LISTEN_FDS") || unsetenv("LISTEN_PID") || unsetenv("LISTEN_FDNAMES"))
         return hub_cannot_use(name, NULL, errno);
     h->listener = GIVEN;
@@ -187,7 +188,8 @@ static void turn_away(int socket, int error, const char *cause) {
     put(frame + HEAD + 16, (uint64_t)error, 4);
     put(frame + HEAD + 20, count, 4);
     memcpy(frame + OPENING_SIZE, cause, count);
-    if (send(socket, frame, OPENING_SIZE + count, MSG_NOSIGNAL | MSG_DONTWAIT) < 0) hub_tell("a client wasn't told: %s", cause);
+    if (send(socket, frame, OPENING_SIZE + count, MSG_NOSIGNAL | MSG_DONTWAIT) < 0)
+        hub_tell("a client wasn't told: %s", cause);
     close(socket);
 }
 

@@ -4,6 +4,7 @@
   none. The installed program says its version, the man pages are shown, and the completion is one of `ztxg`.
 - The example of `topzerad.3` is compiled as `pkg-config` says, and also with the static library. Both run twice by the
   installed program. The shared library has its soname, and the calls of `topzerad.h` and no others.
+- The installed hub serves a pool to the installed `ztxg-ctl`. Its unit names programs that are there.
 - The plugin of nbdkit is installed if the compiler finds its header, and else skipped by name.
 - `make dist` refuses a program that says `unproved`, and makes no archive. Another program is in the archive of
   `make dist` and in the package of `make deb`. The archive's sums are right, and its library is found wherever it is
@@ -32,7 +33,8 @@ SECONDS = 120
 PREFIX = "opt/pool"
 # What is installed below PREFIX, besides the shared library and the plugin.
 FILES = """bin/ztxg include/topzerad.h lib64/libtopzerad.a lib64/libtopzerad.so lib64/pkgconfig/topzerad.pc
-share/man/man1/ztxg.1 share/man/man3/topzerad.3""".split()
+share/man/man1/ztxg.1 share/man/man3/topzerad.3 bin/ztxg-hub bin/ztxg-ctl share/man/man1/ztxg-hub.1
+share/man/man1/ztxg-ctl.1 share/topzerad/ztxg-hub@.service share/topzerad/ztxg-hub@.socket""".split()
 COMPLETION = "share/bash-completion/completions/ztxg"
 PLUGIN = "lib64/nbdkit/plugins/nbdkit-topzerad-plugin.so"
 # Another make that runs this check hands its own words on by these.
@@ -123,7 +125,8 @@ class Installs(Judge):
     def pages(self):
         if not shutil.which("man"):
             return self.skip("the man pages: man not installed")
-        for section, name, word in [("1", "ztxg", "COMMANDS"), ("3", "topzerad", "topzerad_transact_durably")]:
+        shown = [("1", "ztxg", "COMMANDS"), ("1", "ztxg-hub", "SIGNALS"), ("1", "ztxg-ctl", "COMMANDS")]
+        for section, name, word in [*shown, ("3", "topzerad", "topzerad_transact_durably")]:
             said = self.run("man", "--warnings", "-M", self.prefix / "share/man", section, name)
             if said is not None and (word not in said or "warning" in said):
                 self.differ("man", section, name, "prints", said)
@@ -157,6 +160,18 @@ class Installs(Judge):
         soname = f"libtopzerad.so.{self.version.rpartition('.')[0]}"
         if f"[{soname}]" not in (self.run("readelf", "-d", shared) or ""):
             self.differ("the shared library doesn't name itself", soname)
+
+    def hub(self):
+        room = self.folder / "of hub"
+        room.mkdir()
+        self.run("ztxg", "create", "tank.pool", "--size", "8M", folder=room)
+        served = "ztxg-hub tank.pool --socket s & hub=$!; until [ -S s ]; do sleep 0.1; done"
+        ended = "echo hi | ztxg-ctl s put 1; ztxg-ctl s ls; kill $hub; wait $hub; echo $?; ztxg ls tank.pool"
+        self.prints("put 3 bytes in 1 transactions\n1 3\n0\n1 3\n", "sh", "-c", f"{served}; {ended}", folder=room)
+        unit = (self.prefix / "share/topzerad/ztxg-hub@.service").read_text()
+        programs = set(re.findall(r"(/\S*/bin/\S+)", unit))
+        if programs != {f"/{PREFIX}/bin/{name}" for name in ("ztxg", "ztxg-hub")}:
+            self.differ("the unit names", sorted(programs))
 
     def dist(self):
         build, name = self.folder / "build", f"topzerad-{self.version}-x86_64-linux"
@@ -214,7 +229,8 @@ def main(ztxg):
     with tempfile.TemporaryDirectory() as folder:
         installs = Installs(ztxg, pathlib.Path(folder))
         if installs.install():
-            for part in (installs.pages, installs.library, installs.dist, installs.python, installs.uninstall):
+            made = (installs.library, installs.hub, installs.dist, installs.python)
+            for part in (installs.pages, *made, installs.uninstall):
                 part()
     print(f"installs: {installs.differences} differences")
     return int(bool(installs.differences))

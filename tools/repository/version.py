@@ -17,6 +17,8 @@ NAMED = {
     "clients/rust/Cargo.toml": '\nversion = "{}"\n',
     "docs/topzerad.3": '"topzerad {}"',
     "docs/ztxg.1": '"ztxg {}"',
+    "docs/ztxg-hub.1": '"ztxg {}"',
+    "docs/ztxg-ctl.1": '"ztxg {}"',
 }
 
 
