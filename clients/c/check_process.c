@@ -8,8 +8,10 @@
 #include <pthread.h>
 #include <signal.h>
 #include <string.h>
+#include <sys/socket.h>
 #include <sys/stat.h>
 #include <sys/time.h>
+#include <sys/un.h>
 #include <time.h>
 #include <unistd.h>
 
@@ -208,6 +210,49 @@ static void open_pools(void) {
     WANT(!strcmp(topzerad_cause(&pool), "timeout -0.5: 0 to 86400 seconds"));
 }
 
+/* Connects to a socket that no one accepts clients of, by this timeout. */
+static int open_silent(const char *path, double timeout) {
+    const topzerad_options options = {.timeout = timeout};
+    return topzerad_open_socket(&pool, path, &options);
+}
+
+static void *answer_one(void *listener) {
+    static const uint8_t none[12] = {12, 0, 0, 0, 1, 0, 2};
+    for (size_t count = 0; count <= sizeof none; count += sizeof none) {
+        int client = accept(*(int *)listener, NULL, NULL);
+        WANT(client >= 0 && send(client, none, count, 0) == (ssize_t)count && close(client) == 0);
+    }
+    return NULL;
+}
+
+/* Sockets without a hub, and one that has something else. */
+static void open_sockets(void) {
+    struct sockaddr_un address = {.sun_family = AF_UNIX};
+    char too_long[sizeof address.sun_path + 1] = "";
+    const topzerad_options dirty = {.dirty = 4096};
+    int listener = socket(AF_UNIX, SOCK_STREAM, 0);
+    pthread_t thread;
+    WANT(strlen(other) < sizeof address.sun_path);
+    memcpy(address.sun_path, other, strlen(other));
+    WANT(topzerad_open_socket(&pool, other, NULL) == TOPZERAD_SYSTEM && errno == ENOENT);
+    WANT(!strcmp(topzerad_cause(&pool), NO_FILE) && topzerad_flush(&pool) == TOPZERAD_ENDED);
+    WANT(topzerad_open_socket(&pool, made, NULL) == TOPZERAD_SYSTEM && errno == ECONNREFUSED);
+    memset(too_long, 'x', sizeof too_long - 1);
+    WANT(topzerad_open_socket(&pool, too_long, NULL) == TOPZERAD_SYSTEM && errno == ENAMETOOLONG);
+    WANT(topzerad_open_socket(&pool, other, &dirty) == TOPZERAD_BAD_RANGE && topzerad_cause(&pool)[0]);
+    WANT(bind(listener, (struct sockaddr *)&address, sizeof address) == 0 && listen(listener, 0) == 0);
+    WANT(open_silent(other, 0.2) == TOPZERAD_TIMED_OUT); /* it waits to be accepted, and the next one isn't let wait */
+    WANT(open_silent(other, 0.2) == TOPZERAD_TIMED_OUT && open_silent(other, 0.2) == TOPZERAD_TIMED_OUT);
+    WANT(!strcmp(topzerad_cause(&pool), topzerad_text(TOPZERAD_TIMED_OUT)));
+    close(listener);
+    listener = socket(AF_UNIX, SOCK_STREAM, 0);
+    WANT(unlink(other) == 0 && bind(listener, (struct sockaddr *)&address, sizeof address) == 0);
+    WANT(listen(listener, 1) == 0 && pthread_create(&thread, NULL, answer_one, &listener) == 0);
+    for (int i = 0; i < 2; i++) WANT(topzerad_open_socket(&pool, other, NULL) == TOPZERAD_NO_OPENING);
+    WANT(!strcmp(topzerad_cause(&pool), "the connection was ended before it said whether the pool is open"));
+    WANT(pthread_join(thread, NULL) == 0 && close(listener) == 0 && unlink(other) == 0);
+}
+
 static void ignore(int signal_number) { (void)signal_number; }
 
 static void *ask_length(void *unused) {
@@ -279,6 +324,8 @@ int main(int count, char **words) {
     read_openings();
     read_answers();
     open_pools();
+    unlink(other);
+    open_sockets();
     time_out();
     ignore_ends();
     WANT(unlink(made) == 0 && unlink(other) == 0 && unlink(said) == 0 && unlink(answered) == 0);

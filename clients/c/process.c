@@ -279,7 +279,7 @@ static int take_opening(topzerad *pool, int failed) {
     if (failed) {
         pool->socket = -1;
         errno = failed;
-        return TOPZERAD_SYSTEM;
+        return pool->is_late ? TOPZERAD_TIMED_OUT : TOPZERAD_SYSTEM;
     }
     int refusal = read_opening(pool);
     if (pool->is_late) refusal = TOPZERAD_TIMED_OUT;
@@ -373,10 +373,13 @@ int topzerad_open_socket(topzerad *pool, const char *path, const topzerad_option
     pool->deadline = deadline_of(options);
     pthread_setcancelstate(PTHREAD_CANCEL_DISABLE, &state);
     int failed = connect_to(pool, path);
-    if (failed) set_system_cause(pool->cause, "", failed);
+    if (pool->is_late)
+        snprintf(pool->cause, sizeof pool->cause, "%s", topzerad_text(TOPZERAD_TIMED_OUT));
+    else if (failed)
+        set_system_cause(pool->cause, "", failed);
     refusal = take_opening(pool, failed);
     pthread_setcancelstate(state, NULL);
-    return failed && pool->is_late ? TOPZERAD_TIMED_OUT : refusal;
+    return refusal;
 }
 
 topzerad_opening topzerad_opened(const topzerad *pool) { return pool->opening; }

@@ -124,24 +124,31 @@ static int hand_out(hub *h, size_t size) {
     return left ? -1 : 0;
 }
 
-/* The server refused the batch, so nothing of it was made. */
-static void take_refusal(hub *h, uint32_t number) {
-    line asked = h->asked;
-    int is_one = !asked.first->next;
-    h->asked.first = NULL;
-    h->asked.last = &h->asked.first;
-    for (client *c = asked.first, *next; c; c = next) {
-        next = c->next;
-        if (is_one) {
-            if (h->holder == c) h->holder = NULL;
-            end_frame(h, c);
-            if (c->stage == ASKED) hub_refuse_frame(h, c, number);
-        } else {
-            c->stage = WAITING;
-            c->is_alone = 1;
-            hub_add_to_line(&h->waiting, c);
-        }
+/* Lets the clients of a batch wait again, each by itself, before those that wait already. */
+static void ask_again(hub *h) {
+    line again = {NULL, &again.first};
+    while (h->asked.first) {
+        client *c = take_first(&h->asked);
+        c->stage = WAITING;
+        c->is_alone = 1;
+        hub_add_to_line(&again, c);
     }
+    *again.last = h->waiting.first;
+    if (!h->waiting.first) h->waiting.last = again.last;
+    h->waiting.first = again.first;
+}
+
+/* The server refused the batch, so nothing of it was made. A turn is held again once it was asked again. */
+static void take_refusal(hub *h, uint32_t number) {
+    client *c = h->asked.first;
+    h->holder = NULL;
+    if (c->next) {
+        ask_again(h);
+        return;
+    }
+    take_first(&h->asked);
+    end_frame(h, c);
+    if (c->stage == ASKED) hub_refuse_frame(h, c, number);
 }
 
 /* How many requests the batch has. */

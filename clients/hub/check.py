@@ -107,6 +107,7 @@ def reads_are_of_one_moment(tests):
     """A read of several pieces, while another client changes both ends of the object at once."""
     hub = Hub(tests)
     length, is_over = 3 * MIB, threading.Event()
+    get = [tests.ctl, hub.path, "get", "3"]
 
     def change():
         with Pool(socket=hub.path) as pool:
@@ -120,8 +121,8 @@ def reads_are_of_one_moment(tests):
         thread = threading.Thread(target=change)
         thread.start()
         try:
-            for _ in range(20):
-                content = pool.read(3)
+            for at in range(20):
+                content = tests.run(*get).stdout if at % 2 else pool.read(3)
                 want(content[0] == content[-1], "the ends are", content[0], content[-1])
         finally:
             is_over.set()
@@ -140,6 +141,8 @@ def names_of_several_clients(tests):
                 for turn in range(6):
                     pool.put(f"own {at} {turn}", bytes([at]) * 10)
                     pool.put("shared", bytes([at]) * 50_000)
+                    tests.run(tests.ctl, hub.path, "put", "@shared", input=bytes([at + 10]) * 50_000)
+                    tests.run(tests.ctl, hub.path, "put", f"@own {at} {turn}", input=bytes([at]) * 10)
                     if turn % 2:
                         pool.remove(f"own {at} {turn}")
         except Exception as fault:
@@ -158,6 +161,74 @@ def names_of_several_clients(tests):
             want(pool.get(name) == bytes([int(name.split()[1])]) * 10, name, "has other bytes")
         content = pool.get("shared")
         want(len(content) == 50_000 and len(set(content)) == 1, "the shared one is mixed")
+    hub.end()
+
+
+def a_refused_batch(tests):
+    """A server without memory for a frame of several clients is asked by each client's alone."""
+    program, record = tests.recorder(0.3)
+    refusal = 'if content[8] > 1: tell(bytes.fromhex("0c0000000100030001000000")); continue'
+    text = program.read_text().replace("    server.stdin.write(content)", f"    {refusal}\n    server.stdin.write(content)")
+    program.write_text(text)
+    hub = Hub(tests, program=program)
+    clients = [hub.client() for _ in range(4)]
+    clients[0].ask(FLUSH)
+    wait_until(record.exists, "the first frame")
+    clients[1].ask(FLUSH)
+    clients[2].ask(FLUSH, kind=HOLDING)
+    clients[3].ask(FLUSH, FLUSH)
+    time.sleep(0.1)
+    for client in clients[:3]:
+        want(client.answers()[0].came == 8, "a frame alone isn't answered")
+    clients[2].ask(FLUSH)
+    want(clients[2].answers()[0].came == 8, "the one that holds the turn isn't answered")
+    want(clients[3].answers() == 1, "a frame that is refused alone isn't refused")
+    want(clients[3].one("flush")[0] == 8, "its client isn't answered any more")
+    hub.end()
+
+
+def processor_time(process):
+    fields = pathlib.Path(f"/proc/{process}/stat").read_text().rpartition(")")[2].split()
+    return (int(fields[11]) + int(fields[12])) / os.sysconf("SC_CLK_TCK")
+
+
+def a_server_that_stops(tests):
+    """Clients that give up leave the others' frames and their own, and the hub waits without work."""
+    hub = Hub(tests)
+    one, two, three = (hub.client() for _ in range(3))
+    server = hub.server
+    os.kill(server, signal.SIGSTOP)
+    for at, client in enumerate((one, two, three), 1):
+        client.ask((1, "transact", [("c", at, 0, b"")]))
+        time.sleep(0.05)
+    one.close()
+    two.close()
+    late = hub.client()
+    begun = processor_time(hub.process.pid)
+    time.sleep(1)
+    want(processor_time(hub.process.pid) - begun < 0.2, "the hub works while it waits")
+    os.kill(server, signal.SIGCONT)
+    want(three.answers()[0].came == 1, "the last one isn't answered")
+    want(late.one("objects", 0, 9)[1] == struct.pack("<IIQIQIQ", 3, 1, 0, 2, 0, 3, 0), "a frame wasn't made")
+    hub.end()
+
+
+def few_files(tests):
+    """A hub without numbers for files lets clients in later, and waits for that without work."""
+    import resource
+
+    hub = Hub(tests, preexec_fn=lambda: resource.setrlimit(resource.RLIMIT_NOFILE, (20, 20)))
+    good, waiting = hub.client(), []
+    for _ in range(30):
+        waiting.append(socket.socket(socket.AF_UNIX))
+        waiting[-1].connect(str(hub.path))
+    begun = processor_time(hub.process.pid)
+    time.sleep(1)
+    want(processor_time(hub.process.pid) - begun < 0.2, "the hub works while it waits")
+    want(good.one("flush")[0] == 8, "a client isn't answered")
+    for client in waiting:
+        client.close()
+    want(hub.client().one("flush")[0] == 8, "no client is let in any more")
     hub.end()
 
 
@@ -510,6 +581,9 @@ TESTS = [
     clients_share_a_pool,
     frames_that_wait_share_a_flush,
     a_turn_is_held,
+    a_refused_batch,
+    a_server_that_stops,
+    few_files,
     reads_are_of_one_moment,
     names_of_several_clients,
     limits_of_clients,

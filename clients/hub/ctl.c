@@ -6,6 +6,7 @@
 #include <errno.h>
 #include <getopt.h>
 #include <inttypes.h>
+#include <stdarg.h>
 #include <stdio.h>
 #include <stdlib.h>
 #include <string.h>
@@ -65,26 +66,35 @@ static run the_run;
 
 /* Refusals. */
 
+/* Prints a line on standard error. There is no one to tell if that can't be written. */
+__attribute__((format(printf, 1, 2))) static void tell(const char *format, ...) {
+    va_list arguments;
+    va_start(arguments, format);
+    (void)fputs("ztxg-ctl: ", stderr);
+    (void)vfprintf(stderr, format, arguments);
+    (void)fputc('\n', stderr);
+    va_end(arguments);
+}
+
 static int refused(const run *r, int refusal, const char *cause) {
+    uint64_t kind, address;
     if (refusal < 1 || (size_t)refusal >= sizeof names / sizeof *names) {
-        fprintf(stderr, "ztxg-ctl: %s\n", topzerad_text(refusal));
+        tell("%s", topzerad_text(refusal));
         return UNUSABLE;
     }
-    fprintf(stderr, "ztxg-ctl: refused %d %s", refusal, names[refusal]);
-    if (refusal == TOPZERAD_DAMAGED) {
-        uint64_t kind, address;
-        topzerad_damage(&kind, &address);
-        fprintf(stderr, " %" PRIu64 " %" PRIu64, kind, address);
-    }
-    fputc('\n', stderr);
-    if (!r->is_quiet) fprintf(stderr, "ztxg-ctl: cause: %s\n", cause ? cause : topzerad_text(refusal));
+    topzerad_damage(&kind, &address);
+    if (refusal == TOPZERAD_DAMAGED)
+        tell("refused %d %s %" PRIu64 " %" PRIu64, refusal, names[refusal], kind, address);
+    else
+        tell("refused %d %s", refusal, names[refusal]);
+    if (!r->is_quiet) tell("cause: %s", cause ? cause : topzerad_text(refusal));
     return REFUSED;
 }
 
 /* The refusal of a number that is above its limit. */
 static int above(const run *r, const char *what, uint64_t number, const char *limit) {
     char cause[128];
-    snprintf(cause, sizeof cause, "%s %" PRIu64 ": %s", what, number, limit);
+    (void)snprintf(cause, sizeof cause, "%s %" PRIu64 ": %s", what, number, limit);
     return refused(r, TOPZERAD_BAD_RANGE, cause);
 }
 
@@ -110,7 +120,7 @@ static int refused_by_name(run *r, int refusal) {
     char quoted[QUOTED], cause[QUOTED + 96];
     quote(quoted, r->name);
     if (refusal == TOPZERAD_NO_OBJECT) {
-        snprintf(cause, sizeof cause, "no object has the name %s", quoted);
+        (void)snprintf(cause, sizeof cause, "no object has the name %s", quoted);
         return refused(r, refusal, cause);
     }
     if (refusal == TOPZERAD_TOO_MANY) return refused(r, refusal, "no number is left for an object");
@@ -118,7 +128,7 @@ static int refused_by_name(run *r, int refusal) {
     /* Another name is refused so, too, if that is for object 0. */
     if (topzerad_find_named(&r->pool, "-", &r->number) == TOPZERAD_BAD_RANGE)
         return refused(r, refusal, "object 0 is no table of names");
-    snprintf(cause, sizeof cause, "object name %s: 1 to 254 bytes of UTF-8, no control characters, no /", quoted);
+    (void)snprintf(cause, sizeof cause, "object name %s: 1 to 254 bytes of UTF-8, no control characters, no /", quoted);
     return refused(r, refusal, cause);
 }
 
@@ -272,14 +282,16 @@ static int put_numbered(run *r, size_t count) {
     if (!refusal) return DONE;
     int status = refused(r, refusal, NULL);
     if (r->transactions)
-        fprintf(stderr, "ztxg-ctl: committed %" PRIu64 " bytes in %u transactions\n", r->committed, r->transactions);
+        tell("committed %" PRIu64 " bytes in %u transactions", r->committed, r->transactions);
     return status;
 }
 
 static int put_object(run *r) {
     size_t count = fread(r->content, 1, sizeof r->content, stdin);
     if (ferror(stdin)) {
-        fprintf(stderr, "ztxg-ctl: cannot use -\nztxg-ctl: cause: %s (os error %d)\n", strerror(errno), errno);
+        int failed = errno;
+        tell("cannot use -");
+        tell("cause: %s (os error %d)", strerror(failed), failed);
         return UNUSABLE;
     }
     if (count > TOPZERAD_MAX_LENGTH)
@@ -326,7 +338,7 @@ static int print_stat(run *r) {
 /* The command line. */
 
 static int wrong(const char *word, const char *wanted) {
-    fprintf(stderr, "ztxg-ctl: %s: %s\n", word, wanted);
+    tell("%s: %s", word, wanted);
     return BAD_LINE;
 }
 
@@ -433,8 +445,8 @@ static int open_pool(run *r) {
     const topzerad_options options = {.timeout = r->timeout};
     int refusal = topzerad_open_socket(&r->pool, r->socket, &options);
     if (!refusal) return 0;
-    fprintf(stderr, "ztxg-ctl: cannot use %s\n", r->socket);
-    if (!r->is_quiet) fprintf(stderr, "ztxg-ctl: cause: %s\n", topzerad_cause(&r->pool));
+    tell("cannot use %s", r->socket);
+    if (!r->is_quiet) tell("cause: %s", topzerad_cause(&r->pool));
     return UNUSABLE;
 }
 

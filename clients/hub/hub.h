@@ -88,7 +88,9 @@ typedef struct {
     server server;
     client *clients;
     uint8_t *memory;
-    struct pollfd *polled;
+    struct pollfd *polled;  /* the listening socket, the server, and the clients of the slots of `shown`, in order */
+    size_t *shown;
+    size_t shown_count;
     size_t count;           /* clients that are there */
     line waiting, asked;
     client *holder;         /* whose next frame goes first, and until when */

@@ -206,7 +206,8 @@ class Tests:
 
     def run(self, *words, status=0, **how):
         """Runs a command, and returns what it prints."""
-        ran = subprocess.run([str(word) for word in words], capture_output=True, timeout=10 * SECONDS, **how)
+        words = [str(word) for word in words]
+        ran = subprocess.run(words, capture_output=True, timeout=10 * SECONDS, **how)
         want(ran.returncode == status, words, "ends with", ran.returncode, ran.stdout[-2000:], ran.stderr[-2000:])
         return ran
 

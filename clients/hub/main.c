@@ -45,7 +45,8 @@ static int take_memory(hub *h) {
     h->memory = calloc(most + 2, MAX_FRAME);
     h->clients = calloc(most, sizeof *h->clients);
     h->polled = calloc(most + FIRST_CLIENT, sizeof *h->polled);
-    if (!h->memory || !h->clients || !h->polled) return -1;
+    h->shown = calloc(most, sizeof *h->shown);
+    if (!h->memory || !h->clients || !h->polled || !h->shown) return -1;
     h->server.out = h->memory + most * MAX_FRAME;
     h->server.in = h->server.out + MAX_FRAME;
     for (size_t i = 0; i < most; i++) {
@@ -59,6 +60,7 @@ static void give_memory_back(hub *h) {
     free(h->memory);
     free(h->clients);
     free(h->polled);
+    free(h->shown);
 }
 
 /* Lets the process have as many files as it needs, if it may. */
@@ -106,15 +108,17 @@ static void notice_stops(hub *h) {
     if (h->stops && !h->is_stopping) begin_stop(h);
     if (h->stops > 1) close_all(h);
     hub_tend_clients(h, topzerad_now());
-    if (h->is_stopping && !h->count && !h->server.is_gone && !h->server.is_closing) hub_close_server(h);
+    int is_last = h->is_stopping && (!h->count || h->stops > 1);
+    if (is_last && !h->server.is_gone && !h->server.is_closing) hub_close_server(h);
 }
 
 /* Waiting. */
 
-/* What is waited for of a client. One that is gone is left alone until its frame was answered. */
+/* What is waited for of a client. One that is gone is left alone until its frame was answered. poll refuses more entries
+ * than the process may have files, so only clients that are there have one. */
 static struct pollfd polled_client(const client *c) {
     short events = c->stage == READING ? POLLIN : c->stage == ANSWERING ? POLLOUT : 0;
-    return (struct pollfd){c->stage == FREE || c->is_gone ? -1 : c->socket, events, 0};
+    return (struct pollfd){c->is_gone ? -1 : c->socket, events, 0};
 }
 
 static void set_polled(hub *h, uint64_t now) {
@@ -122,7 +126,12 @@ static void set_polled(hub *h, uint64_t now) {
     short out = s->out_done < s->out_size ? POLLOUT : 0;
     h->polled[LISTENER] = (struct pollfd){now < h->pause ? -1 : h->listener, POLLIN, 0};
     h->polled[SERVER] = (struct pollfd){s->is_gone ? -1 : s->socket, (short)(POLLIN | out), 0};
-    for (size_t i = 0; i < h->options.most; i++) h->polled[FIRST_CLIENT + i] = polled_client(&h->clients[i]);
+    h->shown_count = 0;
+    for (size_t i = 0; i < h->options.most; i++) {
+        if (h->clients[i].stage == FREE) continue;
+        h->polled[FIRST_CLIENT + h->shown_count] = polled_client(&h->clients[i]);
+        h->shown[h->shown_count++] = i;
+    }
 }
 
 /* When something is due that no file tells. */
@@ -142,7 +151,7 @@ static int wait_for_files(hub *h, const sigset_t *open) {
     uint64_t left = next > now ? next - now : NANOSECONDS_OF_A_MILLISECOND;
     struct timespec time = {(time_t)(left / SECOND), (long)(left % SECOND)};
     set_polled(h, now);
-    int ready = ppoll(h->polled, h->options.most + FIRST_CLIENT, next == NO_DEADLINE ? NULL : &time, open);
+    int ready = ppoll(h->polled, h->shown_count + FIRST_CLIENT, next == NO_DEADLINE ? NULL : &time, open);
     return ready < 0 && errno != EINTR ? -1 : ready;
 }
 
@@ -155,12 +164,12 @@ static void serve_client(hub *h, client *c, short came) {
         hub_lose_client(h, c);
 }
 
-/* Does what can be done at once. An event of a slot is that of the client that was polled: clients come in last. */
+/* Does what can be done at once. A slot has the client that was polled, or none: clients come in last. */
 static void serve_files(hub *h) {
     if (h->polled[SERVER].revents && hub_read_server(h)) lose_server(h);
-    for (size_t i = 0; i < h->options.most; i++) {
+    for (size_t i = 0; i < h->shown_count; i++) {
         const struct pollfd *polled = &h->polled[FIRST_CLIENT + i];
-        client *c = &h->clients[i];
+        client *c = &h->clients[h->shown[i]];
         if (polled->revents && c->socket == polled->fd) serve_client(h, c, polled->revents);
     }
     if (h->polled[LISTENER].revents && h->listener >= 0) hub_let_in(h);

@@ -5,7 +5,6 @@
 #include <errno.h>
 #include <fcntl.h>
 #include <libgen.h>
-#include <limits.h>
 #include <stdio.h>
 #include <stdlib.h>
 #include <string.h>
@@ -13,9 +12,12 @@
 #include <sys/socket.h>
 #include <sys/stat.h>
 #include <sys/un.h>
+#include <time.h>
 #include <unistd.h>
 
 enum { GIVEN = 3, BACKLOG = 64, AT_ONCE = 16, CAUSE = 96 };
+
+#define LOCK_TIME (5 * SECOND) /* how long another hub may take to replace the socket */
 
 /* A path. */
 
@@ -51,18 +53,18 @@ static int test_path(const char *path, const struct sockaddr_un *address, int *i
     return 0;
 }
 
-/* Takes the lock of a path's folder, so that two hubs don't replace one socket at once. -1 with errno. */
-static int lock_folder(const char *path) {
-    char copy[PATH_MAX];
-    if (snprintf(copy, sizeof copy, "%s", path) >= (int)sizeof copy) {
-        errno = ENAMETOOLONG;
-        return -1;
-    }
-    int folder = open(dirname(copy), O_RDONLY | O_DIRECTORY | O_CLOEXEC);
+/* Takes the lock of a socket's folder, so that two hubs don't replace one socket at once. -1 with errno. */
+static int lock_folder(struct sockaddr_un address) {
+    const struct timespec pause = {0, 10000000};
+    uint64_t deadline = topzerad_now() + LOCK_TIME;
+    int folder = open(dirname(address.sun_path), O_RDONLY | O_DIRECTORY | O_CLOEXEC);
     if (folder < 0) return -1;
-    while (flock(folder, LOCK_EX)) {
-        if (errno == EINTR) continue;
+    while (flock(folder, LOCK_EX | LOCK_NB)) {
         int failed = errno;
+        if (failed == EINTR || (failed == EWOULDBLOCK && topzerad_now() < deadline)) {
+            nanosleep(&pause, NULL);
+            continue;
+        }
         close(folder);
         errno = failed;
         return -1;
@@ -100,28 +102,26 @@ int hub_listen(hub *h) {
     if (h->is_given) return 0;
     int failed = set_address(&address, h->options.path);
     if (failed) return hub_cannot_use(h->options.path, NULL, failed);
-    int folder = lock_folder(h->options.path);
+    int folder = lock_folder(address);
     if (folder < 0) return hub_cannot_use(h->options.path, NULL, errno);
     int status = replace_socket(h, &address);
     close(folder);
     return status;
 }
 
-/* Removes the path that the hub made, unless another one is there by now. */
+/* Removes the path that the hub made, unless another file is there by now. */
 static void remove_path(const hub *h) {
     struct stat found;
-    int folder = lock_folder(h->options.path);
-    if (folder < 0) return;
-    if (!lstat(h->options.path, &found) && found.st_dev == h->device && found.st_ino == h->node)
-        unlink(h->options.path);
-    close(folder);
+    if (lstat(h->options.path, &found) || found.st_dev != h->device || found.st_ino != h->node) return;
+    if (unlink(h->options.path)) hub_tell("%s can't be removed", h->options.path);
 }
 
+/* The path goes first: while the hub listens no other one takes its place. */
 void hub_end_listening(hub *h) {
     if (h->listener < 0) return;
+    if (!h->is_given && h->node) remove_path(h);
     close(h->listener);
     h->listener = -1;
-    if (!h->is_given && h->node) remove_path(h);
 }
 
 /* A given socket (sd_listen_fds(3)). */
@@ -204,10 +204,10 @@ static void let_in(hub *h, int socket) {
     }
     client *c = hub_free_slot(h);
     if (!may_come_in(&h->options, peer.uid)) {
-        snprintf(cause, sizeof cause, "the hub lets no user %lu in", (unsigned long)peer.uid);
+        (void)snprintf(cause, sizeof cause, "the hub lets no user %lu in", (unsigned long)peer.uid);
         turn_away(socket, EACCES, cause);
     } else if (!c) {
-        snprintf(cause, sizeof cause, "the hub has %zu clients, as many as it may have", h->options.most);
+        (void)snprintf(cause, sizeof cause, "the hub has %zu clients, as many as it may have", h->options.most);
         turn_away(socket, EAGAIN, cause);
     } else {
         hub_add_client(h, c, socket, peer.uid, peer.pid);

@@ -4,10 +4,12 @@ one."""
 
 import contextlib
 import copy
+import errno
 import os
 import pathlib
 import pickle
 import signal
+import socket
 import struct
 import subprocess
 import sys
@@ -184,6 +186,41 @@ class Openings(OnPools):
         with self.assertRaises(topzerad.FileMissing) as caught:
             Pool(self.folder / "no program", self.path)
         self.assertEqual(caught.exception.filename, str(self.folder / "no program"))
+
+    def test_a_socket_without_a_hub(self):
+        place = self.folder / "socket"
+        with self.assertRaises(topzerad.FileMissing) as caught:
+            Pool(socket=place)
+        self.assertEqual(caught.exception.filename, str(place))
+        with self.assertRaisesRegex(topzerad.FileUnusable, "too long"):
+            Pool(socket="x" * 200)
+        for options in ({"dirty": 4_096}, {"wait": 1}, {"program": PROGRAM}, {"path": self.path}):
+            self.refused(11, Pool, socket=place, **options)
+        with self.assertRaises(TypeError):
+            Pool(PROGRAM)
+        with socket.socket(socket.AF_UNIX) as listener:
+            listener.bind(str(place))
+            with self.assertRaises(topzerad.FileUnusable) as caught:
+                Pool(socket=place)
+            self.assertEqual(caught.exception.errno, errno.ECONNREFUSED)
+            listener.listen(0)
+            for _ in range(3):  # the last ones aren't let wait
+                with self.assertRaises(topzerad.TimedOut):
+                    Pool(socket=os.fsencode(place), timeout=0.2)
+        place.unlink()
+        with socket.socket(socket.AF_UNIX) as listener:
+            listener.bind(str(place))
+            listener.listen()
+            for content, error in [(b"", topzerad.NoOpening), (struct.pack("<IHHI", 12, 1, 2, 0), topzerad.Broken)]:
+                thread = started(self.answer_one, listener, content)
+                with self.assertRaises(error):
+                    Pool(socket=place)
+                thread.join()
+
+    def answer_one(self, listener, content):
+        client, _ = listener.accept()
+        with client:
+            client.sendall(content)
 
     def test_create(self):
         with self.open() as pool:

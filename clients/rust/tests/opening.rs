@@ -3,7 +3,8 @@
 mod common;
 
 use common::{new_path, new_pool, program, refusal, signal, text, SILENT, SIZE, WITH_PID};
-use std::io::ErrorKind;
+use std::io::{ErrorKind, Write};
+use std::os::unix::net::UnixListener;
 use std::time::{Duration, Instant};
 use topzerad::{CreateOptions, Error, Op, Opened, Options, Pool, Refusal};
 
@@ -97,6 +98,27 @@ fn a_program_that_says_nothing_is_ended() {
     assert!(matches!(Options::new().timeout(time).open(SILENT, "tank.pool"), Err(Error::TimedOut)));
     let came = CreateOptions::new().timeout(time).create(SILENT, "tank.pool", "tank", 77, SIZE);
     assert!(matches!(came, Err(Error::TimedOut)));
+}
+
+/// One that no hub listens on, and one that has something else.
+#[test]
+fn a_socket_without_a_hub_is_told() {
+    let path = new_path("hub.socket");
+    assert_eq!(kind(Pool::open_socket(&path)), Some(ErrorKind::NotFound));
+    let listener = UnixListener::bind(&path).unwrap();
+    let mut options = Options::new();
+    options.timeout(Duration::from_millis(300));
+    assert!(matches!(options.open_socket(&path), Err(Error::TimedOut)));
+    assert_eq!(refusal(Options::new().dirty(4_096).open_socket(&path)), Some(Refusal::BadRange));
+    assert_eq!(refusal(options.wait(Duration::from_secs(1)).open_socket(&path)), Some(Refusal::BadRange));
+    drop(listener.accept().unwrap());
+    let answers: [&[u8]; 2] = [b"", b"\x0c\0\0\0\x01\0\x02\0\0\0\0\0"];
+    std::thread::scope(|scope| {
+        scope.spawn(|| answers.iter().for_each(|bytes| listener.accept().unwrap().0.write_all(bytes).unwrap()));
+        assert!(matches!(Pool::open_socket(&path), Err(Error::NoOpening(None))));
+        assert!(matches!(Pool::open_socket(&path), Err(Error::BadAnswer)));
+    });
+    assert_eq!(kind(Pool::open_socket(new_pool("no socket.pool"))), Some(ErrorKind::ConnectionRefused));
 }
 
 /// The process is stopped, so that it doesn't answer. If it goes on, its late answer is read by the close: it is more
