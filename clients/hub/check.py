@@ -70,7 +70,7 @@ def frames_that_wait_share_a_flush(tests):
 def a_turn_is_held(tests):
     """No frame comes before the next one of the client that holds the turn, unless that takes too long."""
     program, record = tests.recorder(0.1)
-    hub = Hub(tests, "--timeout", "2", program=program)
+    hub = Hub(tests, "--timeout", "5", program=program)
     one, other = hub.client(), hub.client()
 
     def order():
@@ -290,14 +290,14 @@ def users(tests):
 
 def slow_clients(tests):
     """One that reads no answer, one that sends half a frame, and one that sends byte by byte, hurt no other."""
-    hub = Hub(tests, "--timeout", "2")
+    hub = Hub(tests, "--timeout", "4")
     deaf, half, slow, good = (hub.client() for _ in range(4))
     good.one("transact", [("c", 1, 0, b""), ("l", 1, 4 * MIB, b"")])
     for _ in range(3):
         deaf.ask((1, "read", (1, 0, 4_000_000)))
     half.send(b"\x20\0\0\0\1")
     begun, answered = time.monotonic(), 0
-    while time.monotonic() < begun + 3:
+    while time.monotonic() < begun + 6:
         want(good.one("transact", [("w", 1, answered, b"x")])[0] == 1, "the good one isn't answered")
         answered += 1
         try:
@@ -305,7 +305,7 @@ def slow_clients(tests):
         except OSError:
             pass
         time.sleep(0.05)
-    want(answered >= 20, "the good one was answered", answered, "times alone")
+    want(answered >= 5, "the good one was answered", answered, "times alone")
     for client in (half, slow):
         want(client.answers() == 2 and client.is_ended(), "it isn't refused 2 and ended")
     want("its answer wasn't read in time" in hub.said() and "the frame came too slowly" in hub.said(), hub.said())
@@ -357,6 +357,14 @@ def signals(tests):
         record.unlink()
         with Pool(tests.program, hub.file) as pool:
             want(pool.objects() == {1: 0, 2: 0} and pool.opened.records == 0, "the pool wasn't synced")
+    hub = Hub(tests)
+    asked = hub.client()
+    hub.process.send_signal(signal.SIGSTOP)
+    asked.ask(FLUSH)
+    hub.process.terminate()
+    hub.process.send_signal(signal.SIGCONT)
+    want(asked.answers()[0].came == 8 and asked.is_ended(), "a frame that was sent before the signal isn't answered")
+    hub.ends(0)
     hub = Hub(tests)
     half = hub.client()
     half.send(b"\x15")

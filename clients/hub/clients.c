@@ -159,16 +159,19 @@ static void end_late(hub *h, client *c) {
         hub_close_client(h, c, "its answer wasn't read in time");
 }
 
+int hub_is_awaited(const client *c) { return c->stage == READING || c->stage == ANSWERING; }
+
+static int is_idle(const hub *h, const client *c) { return c->stage == READING && !c->done && c != h->holder; }
+
 void hub_tend_clients(hub *h, uint64_t now) {
-    client *holder = h->holder;
-    if (holder && now >= h->hold_end && (holder->stage == READING || holder->stage == ANSWERING))
-        hub_close_client(h, holder, "it held the turn too long");
+    if (h->holder && hub_is_awaited(h->holder) && now >= h->hold_end)
+        hub_close_client(h, h->holder, "it held the turn too long");
     for (size_t i = 0; i < h->options.most; i++) {
         client *c = &h->clients[i];
-        int is_idle = c->stage == READING && !c->done && c != h->holder;
-        if (h->is_stopping && is_idle)
+        if (h->is_stopping && is_idle(h, c)) hub_read_client(h, c); /* it may have sent a frame already */
+        if (h->is_stopping && is_idle(h, c))
             hub_close_client(h, c, NULL);
-        else if ((c->stage == READING || c->stage == ANSWERING) && now >= c->deadline)
+        else if (hub_is_awaited(c) && now >= c->deadline)
             end_late(h, c);
     }
 }

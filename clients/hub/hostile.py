@@ -124,8 +124,8 @@ class Hostile(threading.Thread):
                     break
                 if self.chance.random() < 0.8:
                     client.socket.recv(self.chance.choice([1, 100, 100_000]))
-            if self.chance.random() < 0.02:
-                time.sleep(1.5)
+            if self.chance.random() < 0.005:
+                time.sleep(6)
         except (OSError, socket.timeout):
             pass
         finally:
@@ -134,7 +134,7 @@ class Hostile(threading.Thread):
 
 def chance(tests):
     """Clients by chance. The good one's calls are answered rightly and in time, and the hub's memory is bounded."""
-    seed, hub = tests.chosen.seed, Hub(tests, "--max-clients", "8", "--timeout", "1")
+    seed, hub = tests.chosen.seed, Hub(tests, "--max-clients", "8", "--timeout", "5")
     good, end, count = hub.client(), time.monotonic() + tests.chosen.seconds, 0
     threads = [Hostile(hub.path, random.Random(f"{seed} {at}"), end) for at in range(6)]
     for thread in threads:
@@ -151,7 +151,7 @@ def chance(tests):
     for thread in threads:
         thread.join()
         want(thread.fault is None, thread.fault)
-    want(count > 5 and longest < 30, "the good client was answered", count, "times, at the longest after", longest)
+    want(count > 5 and longest < 60, "the good client was answered", count, "times, at the longest after", longest)
     status = open(f"/proc/{hub.process.pid}/status").read()
     (memory,) = (int(line.split()[1]) for line in status.splitlines() if line.startswith("VmHWM"))
     want(memory < 100 << 10, "the hub had", memory, "KiB")

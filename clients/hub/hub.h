@@ -169,6 +169,8 @@ void hub_write_client(hub *h, client *c);
 void hub_lose_client(hub *h, client *c);
 /* Closes a client. With a cause it is told on standard error. */
 void hub_close_client(hub *h, client *c, const char *cause);
+/* Whether something is awaited of a client: the rest of a frame, or that it reads its answer. */
+int hub_is_awaited(const client *c);
 /* Closes those whose deadline has passed, and those that nothing is under way for once the hub stops. */
 void hub_tend_clients(hub *h, uint64_t now);
 void hub_add_to_line(line *l, client *c);

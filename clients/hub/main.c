@@ -82,7 +82,7 @@ static void begin_stop(hub *h) {
 static void close_all(hub *h) {
     for (size_t i = 0; i < h->options.most; i++) {
         client *c = &h->clients[i];
-        if (c->stage == READING || c->stage == ANSWERING)
+        if (hub_is_awaited(c))
             hub_close_client(h, c, NULL);
         else if (c->stage != FREE)
             c->is_gone = 1;
@@ -137,10 +137,10 @@ static void set_polled(hub *h, uint64_t now) {
 /* When something is due that no file tells. */
 static uint64_t next_deadline(const hub *h, uint64_t now) {
     uint64_t next = h->pause > now ? h->pause : NO_DEADLINE;
-    if (h->holder && h->hold_end < next) next = h->hold_end;
+    if (h->holder && hub_is_awaited(h->holder) && h->hold_end < next) next = h->hold_end;
     for (size_t i = 0; i < h->options.most; i++) {
         const client *c = &h->clients[i];
-        if ((c->stage == READING || c->stage == ANSWERING) && c->deadline < next) next = c->deadline;
+        if (hub_is_awaited(c) && c->deadline < next) next = c->deadline;
     }
     return next;
 }
