@@ -77,8 +77,8 @@ $(PROVED_ZTXG): $(SOURCES)
 library:
 	$(MAKE) -C clients/c OUT=$(abspath $(BUILD))/c
 
-hub:
-	@if $(HAS_HUB); then $(MAKE) -C clients/hub OUT=$(abspath $(HUB)); \
+hub: library
+	@if $(HAS_HUB); then $(MAKE) -C clients/hub OUT=$(abspath $(HUB)) LIBRARY=$(abspath $(BUILD))/c/libtopzerad.a; \
 	else echo "skipped the hub: the system has no SO_PEERCRED"; fi
 
 plugin:

@@ -139,7 +139,7 @@ class RefusedFrame(Error):
 
 
 class FileUnusable(Error, OSError):
-    """The pool's file can't be used, or the program can't be started. `filename` names it, `strerror` is the cause,
+    """The pool's file or a hub's socket can't be used, or the program can't be started. `filename` names it, `strerror` is the cause,
     and `errno` the system's error number, or 0 if the system refused nothing."""
 
     def __str__(self) -> str:
@@ -155,11 +155,11 @@ class FilePresent(FileUnusable, FileExistsError):
 
 
 class FileForbidden(FileUnusable, PermissionError):
-    """The caller may not use the file."""
+    """The caller may not use the file, or the socket of a hub."""
 
 
 class FileInUse(FileUnusable, BlockingIOError):
-    """Another process has the file. An open with `wait` tries again."""
+    """Another process has the file, and an open with `wait` tries again. Or a hub has as many clients as it may have."""
 
 
 _BY_ERRNO: Dict[int, Type[FileUnusable]] = {

@@ -18,8 +18,8 @@ pub enum Error {
     CutShort { committed: u64, error: Box<Error> },
     /// The frame was refused whole, with this number of `docs/FRAMES.md`. The call was not made.
     FrameRefused(u32),
-    /// The file can't be used, for this cause. There is an error of the system unless the program itself refused the
-    /// file: `NotFound`, `PermissionDenied`, `WouldBlock` if another process has it, or `AlreadyExists`.
+    /// The file or the socket can't be used, for this cause. There is an error of the system unless the program itself
+    /// refused the file: `NotFound`, `PermissionDenied`, `WouldBlock` if another process has it, or `AlreadyExists`.
     Unusable { cause: String, source: Option<io::Error> },
     /// `PROGRAM create` made no pool, and printed this text instead of a refusal.
     NotCreated { status: Option<ExitStatus>, text: String },
