@@ -168,8 +168,8 @@ def a_refused_batch(tests):
     """A server without memory for a frame of several clients is asked by each client's alone."""
     program, record = tests.recorder(0.3)
     refusal = 'if content[8] > 1: tell(bytes.fromhex("0c0000000100030001000000")); continue'
-    text = program.read_text().replace("    server.stdin.write(content)", f"    {refusal}\n    server.stdin.write(content)")
-    program.write_text(text)
+    before = "    server.stdin.write(content)"
+    program.write_text(program.read_text().replace(before, f"    {refusal}\n{before}"))
     hub = Hub(tests, program=program)
     clients = [hub.client() for _ in range(4)]
     clients[0].ask(FLUSH)

@@ -114,8 +114,8 @@ static void notice_stops(hub *h) {
 
 /* Waiting. */
 
-/* What is waited for of a client. One that is gone is left alone until its frame was answered. poll refuses more entries
- * than the process may have files, so only clients that are there have one. */
+/* What is waited for of a client. One that is gone is left alone until its frame was answered. poll refuses more
+ * entries than the process may have files, so only clients that are there have one. */
 static struct pollfd polled_client(const client *c) {
     short events = c->stage == READING ? POLLIN : c->stage == ANSWERING ? POLLOUT : 0;
     return (struct pollfd){c->is_gone ? -1 : c->socket, events, 0};

@@ -139,8 +139,8 @@ class RefusedFrame(Error):
 
 
 class FileUnusable(Error, OSError):
-    """The pool's file or a hub's socket can't be used, or the program can't be started. `filename` names it, `strerror` is the cause,
-    and `errno` the system's error number, or 0 if the system refused nothing."""
+    """The pool's file or a hub's socket can't be used, or the program can't be started. `filename` names it,
+    `strerror` is the cause, and `errno` the system's error number, or 0 if the system refused nothing."""
 
     def __str__(self) -> str:
         return f"cannot use {os.fsdecode(self.filename)!r}: {self.strerror}"
@@ -159,7 +159,7 @@ class FileForbidden(FileUnusable, PermissionError):
 
 
 class FileInUse(FileUnusable, BlockingIOError):
-    """Another process has the file, and an open with `wait` tries again. Or a hub has as many clients as it may have."""
+    """Another process has the file, and an open with `wait` tries again. Or a hub has as many clients as it may."""
 
 
 _BY_ERRNO: Dict[int, Type[FileUnusable]] = {
