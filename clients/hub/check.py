@@ -640,6 +640,10 @@ def main():
     parser.add_argument("--target", help="the folder that cargo builds in")
     parser.add_argument("tests", metavar="TEST", nargs="*", help="their names begin so (all)")
     chosen = parser.parse_args()
+    # Whoever started this may have had them ignored, and processes below would keep that.
+    for number in (signal.SIGHUP, signal.SIGINT, signal.SIGTERM):
+        if signal.getsignal(number) is signal.SIG_IGN:
+            signal.signal(number, signal.SIG_DFL)
     chosen.program = os.path.realpath(shutil.which(chosen.program) or chosen.program)
     failed = 0
     for test in TESTS:
