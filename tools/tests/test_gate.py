@@ -7,9 +7,14 @@ import unittest
 
 from tools import TOP
 
-# What stands in the place of the tools and of `rt`: they print their words, and end as the files of this name say.
+# What stands in the place of the tools and of `rt`: they print their words, and end as the files of this name say. The
+# tool that measures runs its command, and says something behind its output.
 TOOLS = """\
-import pathlib, sys
+import pathlib, subprocess, sys
+if sys.argv[1] == "gate_costs":
+    status = subprocess.run(sys.argv[2:]).returncode
+    print("gate: its costs")
+    sys.exit(status)
 if sys.argv[1] != "lanes":
     print("tools", *sys.argv[1:])
 print(pathlib.Path(f"{sys.argv[1]}.out").read_text(), end="")
@@ -54,7 +59,7 @@ class Gate(unittest.TestCase):
     def test_all_parts_are_counted(self):
         status, lines = self.run_gate()
         wanted = ["tools check", "check: all is right", "rt ci with 3", "7 passed, 0 failed"]
-        wanted += ["tools program_checks crates/ztxg/out/ztxg", "20 passed, 0 failed", "28 passed, 0 failed"]
+        wanted += ["gate: its costs", "tools program_checks crates/ztxg/out/ztxg", "20 passed, 0 failed", "28 passed, 0 failed"]
         self.assertEqual((status, lines), (0, wanted))
 
     def test_each_part_may_fail_and_the_others_run(self):
