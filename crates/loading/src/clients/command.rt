@@ -2,10 +2,10 @@
 
 ghost use Rattle.std.specs.Prelude.{◌≡◌};
 
+use crate::load::run_load;
 use command_arguments::{LoadArguments, Order, Verbosity};
 use device_model::SectorDevice;
 use file_devices::FileRefusal;
-use loading::run_load;
 use read_commands::NotesRefusals;
 use std::io::{Eprint, Write};
 use std::sync::Wait;
