@@ -14,11 +14,12 @@ _ztxg() {
     case $command in
         create) options+=" --size --name --guid --new --force --moment" ;;
         put) options+=" --offset --moment" ;;
-        get) options+=" --offset --length" ;;
-        ls) options+=" -l --long --json" ;;
+        get) options+=" --offset --length --whole" ;;
+        ls) options+=" -l --long --json --whole" ;;
         df) options="-q --quiet -v --verbose --wait --help -h --human-readable" ;;
         check) options+=" --all --json" ;;
-        show|labels) options+=" --json" ;;
+        show) options+=" --fast --json" ;;
+        labels) options+=" --json" ;;
         rm) options+=" --moment" ;;
         load) options+=" --workers --ops --seed --dirty --cache --moment" ;;
         serve) options+=" --dirty --cache --moment" ;;

@@ -82,6 +82,7 @@ def all_checks():
         Check("power_failures", needs=cc),
         Check("commands"),
         Check("named_objects"),
+        Check("path_reads", needs=cc),
         Check("installs", needs=[*cc, "make", "pkg-config"]),
         Check("two_creates", ["20"]),
         Check("frame_rows"),

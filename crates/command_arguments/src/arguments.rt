@@ -2,7 +2,9 @@
 
 use crate::bench::BenchOrder;
 use crate::order::Order;
-use crate::reports::{ListArguments, ReportArguments, ReportForm, SpaceArguments};
+use crate::reports::{
+    ListArguments, ReportArguments, ReportForm, Scope, ShowArguments, SpaceArguments,
+};
 
 /// How much is reported of a command that was not done.
 #[derive(Clone, Copy)]
@@ -54,7 +56,7 @@ pub enum Arguments<'a> {
 #[derive(Clone, Copy)]
 pub enum ReadCommand<'a> {
     /// `ztxg show`.
-    Show(ReportArguments<'a>),
+    Show(ShowArguments<'a>),
     /// `ztxg check`.
     Check(CheckArguments<'a>),
     /// `ztxg ls`.
@@ -64,9 +66,9 @@ pub enum ReadCommand<'a> {
     /// `ztxg labels`.
     Labels(ReportArguments<'a>),
     /// `ztxg get` of an object by its number.
-    Get(GetArguments<'a>),
+    Get(GetArguments<'a>, Scope),
     /// `ztxg get` of an object by its name.
-    GetNamed(GetNamedArguments<'a>),
+    GetNamed(GetNamedArguments<'a>, Scope),
 }
 
 /// A command that makes or changes a pool by one transaction after the other.

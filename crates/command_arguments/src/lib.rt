@@ -17,6 +17,7 @@ pub use arguments::{
 pub use bench::{BenchOrder, MAX_BENCH_BYTES, MAX_BENCH_SECONDS, MAX_BENCH_WORKERS};
 pub use order::{MAX_WORKERS, MAX_WRITES, Order, STREAMS};
 pub use reports::{
-    ListArguments, ListForm, ReportArguments, ReportForm, SpaceArguments, SpaceUnit,
+    ListArguments, ListForm, ReportArguments, ReportForm, Scope, ShowArguments, ShowForm,
+    SpaceArguments, SpaceUnit,
 };
 pub use sizes::size_of;

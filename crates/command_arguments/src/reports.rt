@@ -9,7 +9,36 @@ pub enum ReportForm {
     Json,
 }
 
-/// The arguments of `ztxg show` and of `ztxg labels`.
+/// How much of a pool a command reads and checks.
+#[derive(Clone, Copy)]
+pub enum Scope {
+    /// The blocks alone that lead to what is asked for.
+    Path,
+    /// Each block of the pool, as an import does.
+    Whole,
+}
+
+/// How a pool is shown.
+#[derive(Clone, Copy)]
+pub enum ShowForm {
+    /// In lines, without the blocks in use: no block below the directories is read.
+    Fast,
+    /// In lines, for people and for scripts.
+    Lines,
+    /// As one object of JSON, in one line.
+    Json,
+}
+
+/// The arguments of `ztxg show`.
+#[derive(Clone, Copy)]
+pub struct ShowArguments<'a> {
+    /// The path of the pool's file.
+    pub file: &'a str,
+    /// How the pool is shown.
+    pub form: ShowForm,
+}
+
+/// The arguments of `ztxg labels`.
 #[derive(Clone, Copy)]
 pub struct ReportArguments<'a> {
     /// The path of the pool's file.
@@ -36,6 +65,8 @@ pub struct ListArguments<'a> {
     pub file: &'a str,
     /// How the list is printed.
     pub form: ListForm,
+    /// How much of the pool is read.
+    pub scope: Scope,
 }
 
 /// The unit of a number of bytes that is printed.

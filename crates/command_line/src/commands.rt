@@ -3,10 +3,10 @@
 use crate::help;
 use crate::options::{
     ALL, BENCH_FILE, BENCH_SECONDS, BENCH_SIZE, BENCH_WORKERS, BYTES, CACHE, CLOCK_MOMENT,
-    CREATE_MOMENT, CREATED_FILE, DIRTY, DURABLE, FORCE, GET_OFFSET, GIVEN_GUID, GIVEN_NAME,
+    CREATE_MOMENT, CREATED_FILE, DIRTY, DURABLE, FAST, FORCE, GET_OFFSET, GIVEN_GUID, GIVEN_NAME,
     GIVEN_SIZE, HELP, HUMAN_READABLE, JSON, LENGTH, LOAD_WORKERS, LOADED_DIRTY, LONG, MEMORY_SIZE,
     MOMENT, NEW, OBJECT, OPS, POOL_GUID, POOL_NAME, POOL_SIZE, PUT_OFFSET, READ_FILE, SCRIPT,
-    SCRIPT_FILE, SEED, STOP, SYNC, WRITTEN_FILE,
+    SCRIPT_FILE, SEED, STOP, SYNC, WHOLE, WRITTEN_FILE,
 };
 use crate::words::{Word, with_words};
 use clap::Command;
@@ -63,7 +63,7 @@ pub(crate) const COMMANDS: [CommandWords; 13] = [
         about: "Reports what an import of the pool in a file would mount; it only reads the file",
         after_help: help::SHOW,
         shape: Shape::Plain,
-        words: &[READ_FILE, JSON],
+        words: &[READ_FILE, JSON, FAST],
     },
     CommandWords {
         name: "check",
@@ -77,7 +77,7 @@ pub(crate) const COMMANDS: [CommandWords; 13] = [
         about: "Lists the objects of the pool in a file; it only reads the file",
         after_help: help::LIST,
         shape: Shape::Plain,
-        words: &[READ_FILE, LONG, JSON],
+        words: &[READ_FILE, LONG, JSON, WHOLE],
     },
     CommandWords {
         name: "df",
@@ -91,7 +91,7 @@ pub(crate) const COMMANDS: [CommandWords; 13] = [
         about: "Writes the bytes of an object to standard output; it only reads the file",
         after_help: help::GET,
         shape: Shape::Plain,
-        words: &[READ_FILE, OBJECT, GET_OFFSET, LENGTH],
+        words: &[READ_FILE, OBJECT, GET_OFFSET, LENGTH, WHOLE],
     },
     CommandWords {
         name: "put",

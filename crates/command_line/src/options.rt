@@ -190,6 +190,22 @@ pub(crate) const LONG: Word = Word {
     help: "Prints the most blocks of each object, and no names",
 };
 
+/// Whether a command that reads by path reads the whole pool first.
+pub(crate) const WHOLE: Word = Word {
+    name: "whole",
+    form: Form::Flag,
+    rule: Rule::Free,
+    help: "Reads and checks the whole pool first, and is refused for any damage of it",
+};
+
+/// Whether a pool is shown without the blocks in use.
+pub(crate) const FAST: Word = Word {
+    name: "fast",
+    form: Form::Flag,
+    rule: Rule::Without("json"),
+    help: "Leaves out the blocks in use, so that no block below the directories is read",
+};
+
 pub(crate) const HUMAN_READABLE: Word = Word {
     name: "human-readable",
     form: Form::Letter('h'),

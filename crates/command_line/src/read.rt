@@ -7,8 +7,8 @@ use command_arguments::{
     Arguments, BenchArguments, BenchOrder, ChangeCommand, CheckArguments, CreateArguments,
     GetArguments, GetNamedArguments, ListArguments, ListForm, LoadArguments, Options, Order,
     PutArguments, PutNamedArguments, ReadCommand, RemoveArguments, RemoveNamedArguments,
-    ReportArguments, ReportForm, ScriptArguments, ScriptDevice, ServeArguments, SizedArguments,
-    SpaceArguments, SpaceUnit, Verbosity,
+    ReportArguments, ReportForm, Scope, ScriptArguments, ScriptDevice, ServeArguments,
+    ShowArguments, ShowForm, SizedArguments, SpaceArguments, SpaceUnit, Verbosity,
 };
 
 /// The arguments of the command that was named. `None` if a pool's guid is lacking: the words are there that each command
@@ -82,8 +82,22 @@ fn read_sized<'a>(given: &ArgMatches<'a>, defaults: &Defaults) -> Option<SizedAr
 }
 
 fn read_show<'a>(given: &ArgMatches<'a>) -> Option<Arguments<'a>> {
-    let command = ReadCommand::Show(read_report(given)?);
+    let command = ReadCommand::Show(ShowArguments {
+        file: text(given, "FILE")?,
+        form: show_form(given),
+    });
     Some(Arguments::Read(command))
+}
+
+// The two options aren't given together.
+fn show_form(given: &ArgMatches<'_>) -> ShowForm {
+    if given.get_flag("fast") {
+        ShowForm::Fast
+    } else if given.get_flag("json") {
+        ShowForm::Json
+    } else {
+        ShowForm::Lines
+    }
 }
 
 fn read_labels<'a>(given: &ArgMatches<'a>) -> Option<Arguments<'a>> {
@@ -119,6 +133,7 @@ fn read_list<'a>(given: &ArgMatches<'a>) -> Option<Arguments<'a>> {
     let command = ReadCommand::List(ListArguments {
         file: text(given, "FILE")?,
         form: list_form(given),
+        scope: read_scope(given),
     });
     Some(Arguments::Read(command))
 }
@@ -131,6 +146,14 @@ fn list_form(given: &ArgMatches<'_>) -> ListForm {
         ListForm::Long
     } else {
         ListForm::Short
+    }
+}
+
+fn read_scope(given: &ArgMatches<'_>) -> Scope {
+    if given.get_flag("whole") {
+        Scope::Whole
+    } else {
+        Scope::Path
     }
 }
 
@@ -151,19 +174,26 @@ fn read_get<'a>(given: &ArgMatches<'a>) -> Option<Arguments<'a>> {
     let file = text(given, "FILE")?;
     let offset = size(given, "offset")?;
     let length = size(given, "length");
+    let scope = read_scope(given);
     let command = match object(given)? {
-        Named::Number(object) => ReadCommand::Get(GetArguments {
-            file,
-            object,
-            offset,
-            length,
-        }),
-        Named::Name(name) => ReadCommand::GetNamed(GetNamedArguments {
-            file,
-            name,
-            offset,
-            length,
-        }),
+        Named::Number(object) => {
+            let arguments = GetArguments {
+                file,
+                object,
+                offset,
+                length,
+            };
+            ReadCommand::Get(arguments, scope)
+        }
+        Named::Name(name) => {
+            let arguments = GetNamedArguments {
+                file,
+                name,
+                offset,
+                length,
+            };
+            ReadCommand::GetNamed(arguments, scope)
+        }
     };
     Some(Arguments::Read(command))
 }

@@ -1,7 +1,8 @@
 /* Notes the writes, syncs and sizes of regular files and the syncs of folders, a line each, in the file that CALLS_FILE
    names. The bytes of the writes go into the file that BYTES_FILE names, one after the other. With NOTE_OUTPUT each
    sync of a regular file has a line at its end too, and each write to standard output one before it. With NOTE_FILES
-   each line of a regular file has the file's name behind it, and each removal of a file has a line. */
+   each line of a regular file has the file's name behind it, and each removal of a file has a line. With NOTE_READS
+   each read of a regular file at a place has a line. */
 
 #include "shim.h"
 #include <limits.h>
@@ -11,7 +12,7 @@
 #include <sys/types.h>
 #include <unistd.h>
 
-static int noted = -1, copied = -1, notes_output, notes_files;
+static int noted = -1, copied = -1, notes_output, notes_files, notes_reads;
 
 static int opened(const char *variable) {
     const char *path = getenv(variable);
@@ -23,6 +24,7 @@ __attribute__((constructor)) static void begin(void) {
     copied = opened("BYTES_FILE");
     notes_output = getenv("NOTE_OUTPUT") != NULL;
     notes_files = getenv("NOTE_FILES") != NULL;
+    notes_reads = getenv("NOTE_READS") != NULL;
 }
 
 static const char *last_part(const char *path) {
@@ -65,6 +67,14 @@ ssize_t pwrite64(int file, const void *bytes, size_t size, off64_t place) {
 }
 
 ssize_t pwrite(int file, const void *bytes, size_t size, off_t place) { return pwrite64(file, bytes, size, place); }
+
+ssize_t pread64(int file, void *bytes, size_t size, off64_t place) {
+    NEXT(ssize_t (*next)(int, void *, size_t, off64_t), "pread64");
+    if (notes_reads) note(file, "read", place, size);
+    return next(file, bytes, size, place);
+}
+
+ssize_t pread(int file, void *bytes, size_t size, off_t place) { return pread64(file, bytes, size, place); }
 
 int fsync(int file) {
     NEXT(int (*next)(int), "fsync");
