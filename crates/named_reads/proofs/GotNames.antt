@@ -7,11 +7,13 @@ use Rattle.base.specs.declared.names.ObjectId.{ObjectId}
 use Rattle.base.specs.history.Contents.{Contents}
 use Rattle.base.specs.tree.Mount.{MountsTo}
 use Rattle.base.proofs.crash.OneMount.{mounts_agree}
+use Rattle.command_arguments.specs.declared.reports.Scope.{Scope}
 use Rattle.object_names.specs.NameTables.{IsNameTable, IsNamed, has_object}
 use Rattle.object_names.proofs.NamesFound.{one_number}
 use Rattle.read_commands.specs.Reads.{WritesMounted}
 use Rattle.read_commands.proofs.MountedBytes.{appended, two_bytes_written}
-use Rattle.read_commands.proofs.PoolLines.{told_of}
+use Rattle.read_commands.specs.Scopes.{IsAssured}
+use Rattle.read_commands.proofs.ScopedReads.{as_mounted, assured, objects_of}
 use Rattle.tree_blocks.specs.Sources.{object_bytes}
 use Rattle.named_reads.specs.NamedLines.{WritesNames, lines_by, list_lines, name_shown}
 use Rattle.named_reads.specs.NamedObjects.{HasName, IsMountedName, WritesNamed}
@@ -27,11 +29,12 @@ pub name_there : (image name : List ℕ) (n : ℕ) (contents : Contents) → Mou
 name_there image name n contents mounts (other, found, is) = subst (λ (c : Contents). HasName c name n) (same_contents image other contents found mounts) is
 
 -- two bytes of the object with a name, where there were no bytes before
-pub two_bytes_named : (image name : List ℕ) (old new : Option (List ℕ)) (contents : Contents) → MountsTo image contents → HasName contents name 7
-    → finite.get contents.objects 7 ≡ Some (10 ∷ 11 ∷ 12 ∷ 13 ∷ []) → old ≡ Some [] → WritesNamed image name (record { low = 1; high = 3 }) old new → new ≡ Some (11 ∷ 12 ∷ [])
-two_bytes_named image name old new contents mounts (table, named) there empty (n, is, writes) =
-    let (same_table, also) = name_there image name n contents mounts is in
-    let seven : n ≡ 7 = one_number (object_bytes contents.objects 0) n 7 name table.distinct also named in
+pub two_bytes_named : (scope : Scope) (keeps : Type 0) (image name : List ℕ) (old new : Option (List ℕ)) → keeps → (contents : Contents) → MountsTo image contents → HasName contents name 7
+    → finite.get contents.objects 7 ≡ Some (10 ∷ 11 ∷ 12 ∷ 13 ∷ []) → old ≡ Some [] → WritesNamed scope keeps image name (record { low = 1; high = 3 }) old new → new ≡ Some (11 ∷ 12 ∷ [])
+two_bytes_named scope keeps image name old new kept contents mounts (table, named) there empty w =
+    let (same_table, also) = name_there image name w.object contents mounts (w.mounted (assured scope keeps image kept (contents, mounts))) in
+    let seven : w.object ≡ 7 = one_number (object_bytes contents.objects 0) w.object 7 name table.distinct also named in
+    let writes = as_mounted scope keeps image w.object (record { low = 1; high = 3 }) old new kept (contents, mounts) w.writes in
     two_bytes_written image old new contents mounts there empty (subst (λ (k : ℕ). WritesMounted image k (record { low = 1; high = 3 }) old new) seven writes)
 
 empty_table : IsNameTable []
@@ -68,21 +71,24 @@ named_first image name n contents table mounts (is_table, named) (other, found, 
     by (Some bytes) (same, also) = shown_named bytes name n (subst (λ (l : List ℕ). IsNamed l n name) (sym same) named)
     by None not = absurd (not is_table)
 
-module _ (keeps : Type 0) (image : List ℕ) (before after : Option (List ℕ)) (kept : keeps) (contents : Contents) (mounts : MountsTo image contents) (empty : before ≡ Some []) (w : WritesNames keeps image before after) where
+module _ (scope : Scope) (keeps : Type 0) (image : List ℕ) (before after : Option (List ℕ)) (kept : keeps) (contents : Contents) (mounts : MountsTo image contents) (empty : before ≡ Some []) (w : WritesNames scope keeps image before after) where
+  all : IsAssured scope keeps image
+  all = assured scope keeps image kept (contents, mounts)
+
   abbrev row : ℕ × List ℕ → ObjectId × ℕ
   row e = (record { 0 = e.0 }, length e.1)
 
   all_written : after ≡ Some (list_lines w.list)
   all_written = appended after (list_lines w.list) (subst (λ (b : Option (List ℕ)). Appends b after (list_lines w.list)) empty w.writes)
 
-  objects_are : (rows : List (ℕ × List ℕ)) → finite.entries contents.objects ≡ rows → w.list.inspected.objects.items ≡ map row rows
-  objects_are rows are = (told_of image w.list.inspected (w.listed kept).mounted contents mounts).objects_are ∙ ap (map row) are
+  objects_are : (rows : List (ℕ × List ℕ)) → finite.entries contents.objects ≡ rows → w.list.objects.items ≡ map row rows
+  objects_are rows are = objects_of image w.list.objects.items (w.listed.mounted all) contents mounts ∙ ap (map row) are
 
   pub two_named : finite.entries contents.objects ≡ (0, object_bytes contents.objects 0) ∷ (1, 10 ∷ 11 ∷ []) ∷ [] → length (object_bytes contents.objects 0) ≡ 512
       → HasName contents (codes "a") 1 → after ≡ Some (codes "0 512\n1 2 a\n")
   two_named are size named =
       let items = objects_are ((0, object_bytes contents.objects 0) ∷ (1, 10 ∷ 11 ∷ []) ∷ []) are in
-      let table = (w.listed kept).named (ap (λ (l : List (ObjectId × ℕ)). has_object l 0) items) in
+      let table = w.listed.named (ap (λ (l : List (ObjectId × ℕ)). has_object l 0) items) all in
       all_written ∙ ap (λ (l : List (ObjectId × ℕ)). Some (lines_by w.list.table l)) items
       ∙ ap Some (two_lines w.list.table (length (object_bytes contents.objects 0)) size (none_first w.list.table) (named_first image (codes "a") 1 contents w.list.table mounts named table))
 
@@ -93,5 +99,5 @@ module _ (keeps : Type 0) (image : List ℕ) (before after : Option (List ℕ)) 
   pub one_unnamed : finite.entries contents.objects ≡ (7, 10 ∷ 11 ∷ []) ∷ [] → after ≡ Some (codes "7 2\n")
   one_unnamed are =
       let items = objects_are ((7, 10 ∷ 11 ∷ []) ∷ []) are in
-      let table = (w.listed kept).unnamed (ap (λ (l : List (ObjectId × ℕ)). has_object l 0) items) in
+      let table = w.listed.unnamed (ap (λ (l : List (ObjectId × ℕ)). has_object l 0) items) in
       all_written ∙ ap (λ (l : List (ObjectId × ℕ)). Some (lines_by w.list.table l)) items ∙ ap (λ (t : Option (List ℕ)). Some (lines_by t ((record { 0 = 7 }, 2) ∷ []))) table ∙ ap Some seven_line

@@ -5,10 +5,13 @@ use Rattle.std.specs.Io.KnownBytes.{Appends}
 use Rattle.std.specs.List.{flat_map}
 use Rattle.base.specs.declared.names.ObjectId.{ObjectId}
 use Rattle.base.specs.formats.Limits.{object_count}
-use Rattle.inspections.specs.Inspections.{AgreesWithImports, IsInspectionOf}
+use Rattle.command_arguments.specs.declared.reports.Scope.{Scope}
+use Rattle.command_arguments.specs.declared.reports.Scope.TheVariants.{Path}
 use Rattle.named_reads.specs.declared.lists.NamedList.{NamedList}
-use Rattle.named_reads.specs.Tables.{IsTableIn}
+use Rattle.named_reads.specs.Tables.{IsTableChecked, IsTableIn}
 use Rattle.object_names.specs.NameTables.{has_object, name_at}
+use Rattle.read_commands.specs.ReadScopes.{AreCheckedObjects, AreMountedObjects}
+use Rattle.read_commands.specs.Scopes.{IsAssured}
 
 -- objects from 1 on may have a name
 abbrev pub may_have_name : ℕ → Bool
@@ -43,18 +46,19 @@ lines_by table = flat_map (line_by table)
 
 -- the lines of a list
 abbrev pub list_lines : NamedList → List ℕ
-list_lines list = lines_by list.table list.inspected.objects.items
+list_lines list = lines_by list.table list.objects.items
 
--- The list is of what the image mounts, and of what each import of it mounts. If there is an object 0, the table is that
--- of object 0, and else there is none.
-pub record IsListedIn (image : List ℕ) (list : NamedList) : Type 0 where
-  pub mounted : IsInspectionOf image list.inspected
-  pub agrees : AgreesWithImports image list.inspected
-  pub named : has_object list.inspected.objects.items 0 ≡ true → IsTableIn image list.table
-  pub unnamed : has_object list.inspected.objects.items 0 ≡ false → list.table ≡ None
+-- The objects and their names are those in what the image mounts, if that is assured. If they were read by path, they are
+-- checked, whatever the image mounts. If there is an object 0, the table is that of object 0, and else there is none.
+pub record IsListedIn (scope : Scope) (keeps : Type 0) (image : List ℕ) (list : NamedList) : Type 0 where
+  pub mounted : IsAssured scope keeps image → AreMountedObjects image list.objects.items
+  pub checked : scope ≡ Path → keeps → AreCheckedObjects image list.objects.items
+  pub named : has_object list.objects.items 0 ≡ true → IsAssured scope keeps image → IsTableIn image list.table
+  pub checked_named : has_object list.objects.items 0 ≡ true → scope ≡ Path → keeps → IsTableChecked image list.table
+  pub unnamed : has_object list.objects.items 0 ≡ false → list.table ≡ None
 
--- the lines of such a list were written, of the image of a device that keeps the model
-pub record WritesNames (keeps : Type 0) (image : List ℕ) (old new : Option (List ℕ)) : Type 0 where
+-- the lines of such a list were written
+pub record WritesNames (scope : Scope) (keeps : Type 0) (image : List ℕ) (old new : Option (List ℕ)) : Type 0 where
   pub list : NamedList
-  pub listed : keeps → IsListedIn image list
+  pub listed : IsListedIn scope keeps image list
   pub writes : Appends old new (list_lines list)

@@ -14,7 +14,7 @@ use crate::gets::run_get_named;
 use crate::lists::{NamedList, list_names, run_list_named};
 use crate::tables::{read_table, table_of};
 use base::{Bytes, ObjectId, PoolError};
-use command_arguments::{GetNamedArguments, Verbosity};
+use command_arguments::{GetNamedArguments, Scope, Verbosity};
 use device_model::SectorDevice;
 use file_devices::FileRefusal;
 use object_names::NameTable;
@@ -51,19 +51,28 @@ fn a_get_writes_the_bytes_of_the_object_with_the_name<
     D: SectorDevice + NotesRefusals + Drop,
     W: Write,
     E: Write,
->(alloc: Global, device: D, out: &mut W, errors: &mut E) -> u8
+>(alloc: Global, scope: Scope, device: D, out: &mut W, errors: &mut E) -> u8
     ensures { result ≡ 0 → IsTrue D.keeps_model → (contents : Contents)
         → MountsTo (bytes_of (D.disk device).now) contents → HasName contents (codes "a") 7
         → finite.get contents.objects 7 ≡ Some (10 ∷ 11 ∷ 12 ∷ 13 ∷ [])
         → W.contents out.old ≡ Some [] → W.contents out.new ≡ Some (11 ∷ 12 ∷ []) }
 {
-    let (status, _) = run_get_named(alloc, TWO_BYTES_OF_A, BRIEF, Ok(device), out, errors);
+    let (status, _) = run_get_named(
+        alloc,
+        TWO_BYTES_OF_A,
+        scope,
+        BRIEF,
+        Ok(device),
+        out,
+        errors,
+    );
     status
 }
 
 // If no object has the name `a`, the status is not 0.
 fn a_get_finds_its_name<D: SectorDevice + NotesRefusals + Drop, W: Write, E: Write>(
     alloc: Global,
+    scope: Scope,
     device: D,
     out: &mut W,
     errors: &mut E,
@@ -72,7 +81,15 @@ fn a_get_finds_its_name<D: SectorDevice + NotesRefusals + Drop, W: Write, E: Wri
         → MountsTo (bytes_of (D.disk device).now) contents
         → ((n : ℕ) → HasName contents (codes "a") n → ⊥) → result ≢ 0 }
 {
-    let (status, _) = run_get_named(alloc, TWO_BYTES_OF_A, BRIEF, Ok(device), out, errors);
+    let (status, _) = run_get_named(
+        alloc,
+        TWO_BYTES_OF_A,
+        scope,
+        BRIEF,
+        Ok(device),
+        out,
+        errors,
+    );
     status
 }
 
@@ -81,7 +98,7 @@ fn no_object_is_got_by_a_name_without_bytes<
     D: SectorDevice + NotesRefusals + Drop,
     W: Write,
     E: Write,
->(alloc: Global, device: D, out: &mut W, errors: &mut E) -> u8
+>(alloc: Global, scope: Scope, device: D, out: &mut W, errors: &mut E) -> u8
     ensures { result ≡ 1 }
 {
     let arguments = GetNamedArguments {
@@ -90,13 +107,14 @@ fn no_object_is_got_by_a_name_without_bytes<
         offset: 0,
         length: None,
     };
-    let (status, _) = run_get_named(alloc, arguments, BRIEF, Ok(device), out, errors);
+    let (status, _) = run_get_named(alloc, arguments, scope, BRIEF, Ok(device), out, errors);
     status
 }
 
 // Whatever a get by name finds, it leaves the disk as it was, and the device refused no write and no flush.
 fn a_get_by_name_writes_nothing_to_the_device<D: SectorDevice + NotesRefusals, W: Write, E: Write>(
     alloc: Global,
+    scope: Scope,
     device: D,
     out: &mut W,
     errors: &mut E,
@@ -107,7 +125,15 @@ fn a_get_by_name_writes_nothing_to_the_device<D: SectorDevice + NotesRefusals, W
     ensures flushes { IfOk result
         (λ after. (D.refused after).flushes ≡ (D.refused device).flushes) }
 {
-    let (_, opened) = run_get_named(alloc, TWO_BYTES_OF_A, BRIEF, Ok(device), out, errors);
+    let (_, opened) = run_get_named(
+        alloc,
+        TWO_BYTES_OF_A,
+        scope,
+        BRIEF,
+        Ok(device),
+        out,
+        errors,
+    );
     opened
 }
 
@@ -115,17 +141,18 @@ fn nothing_is_got_from_a_pool_that_is_not_opened<
     D: SectorDevice + NotesRefusals + Drop,
     W: Write,
     E: Write,
->(alloc: Global, out: &mut W, errors: &mut E) -> u8
+>(alloc: Global, scope: Scope, out: &mut W, errors: &mut E) -> u8
     ensures { result ≡ 3 }
 {
     let opened: Result<D, FileRefusal> = Err(FileRefusal::InUse);
-    let (status, _) = run_get_named(alloc, TWO_BYTES_OF_A, BRIEF, opened, out, errors);
+    let (status, _) = run_get_named(alloc, TWO_BYTES_OF_A, scope, BRIEF, opened, out, errors);
     status
 }
 
 // There are the objects 0 and 1. Object 0 has 512 bytes and names object 1 `a`. The output had no bytes before.
 fn a_list_has_the_name_after_the_length<D: SectorDevice + NotesRefusals + Drop, W: Write, E: Write>(
     alloc: Global,
+    scope: Scope,
     device: D,
     out: &mut W,
     errors: &mut E,
@@ -137,7 +164,9 @@ fn a_list_has_the_name_after_the_length<D: SectorDevice + NotesRefusals + Drop, 
         → length (object_bytes contents.objects 0) ≡ 512 → HasName contents (codes "a") 1
         → W.contents out.old ≡ Some [] → W.contents out.new ≡ Some (codes "0 512\n1 2 a\n") }
 {
-    run_list_named(alloc, "tank.pool", BRIEF, Ok(device), out, errors)
+    let opened = Ok(device);
+    let (status, _) = run_list_named(alloc, "tank.pool", scope, BRIEF, opened, out, errors);
+    status
 }
 
 // Object 7 is the only one, so there are no names. The output had no bytes before.
@@ -145,36 +174,40 @@ fn a_list_without_names_has_numbers_and_lengths<
     D: SectorDevice + NotesRefusals + Drop,
     W: Write,
     E: Write,
->(alloc: Global, device: D, out: &mut W, errors: &mut E) -> u8
+>(alloc: Global, scope: Scope, device: D, out: &mut W, errors: &mut E) -> u8
     ensures { result ≡ 0 → IsTrue D.keeps_model → (contents : Contents)
         → MountsTo (bytes_of (D.disk device).now) contents
         → finite.entries contents.objects ≡ (7, 10 ∷ 11 ∷ []) ∷ []
         → W.contents out.old ≡ Some [] → W.contents out.new ≡ Some (codes "7 2\n") }
 {
-    run_list_named(alloc, "tank.pool", BRIEF, Ok(device), out, errors)
+    let opened = Ok(device);
+    let (status, _) = run_list_named(alloc, "tank.pool", scope, BRIEF, opened, out, errors);
+    status
 }
 
 fn a_pool_that_is_not_opened_is_listed_with_status_3<
     D: SectorDevice + NotesRefusals + Drop,
     W: Write,
     E: Write,
->(alloc: Global, out: &mut W, errors: &mut E) -> u8
+>(alloc: Global, scope: Scope, out: &mut W, errors: &mut E) -> u8
     ensures { result ≡ 3 }
 {
     let opened: Result<D, FileRefusal> = Err(FileRefusal::InUse);
-    run_list_named(alloc, "tank.pool", BRIEF, opened, out, errors)
+    let (status, _) = run_list_named(alloc, "tank.pool", scope, BRIEF, opened, out, errors);
+    status
 }
 
 // Whatever a list finds, it leaves the disk as it was, and the device refused no write and no flush.
 fn a_list_of_names_writes_nothing_to_the_device<D: SectorDevice>(
     alloc: Global,
+    scope: Scope,
     device: D,
 ) -> (Result<NamedList, PoolError>, D)
     ensures disk { IsTrue D.keeps_model → D.disk result.1 ≡ D.disk device }
     ensures writes { (D.refused result.1).writes ≡ (D.refused device).writes }
     ensures flushes { (D.refused result.1).flushes ≡ (D.refused device).flushes }
 {
-    list_names(alloc, device)
+    list_names(alloc, scope, device)
 }
 
 // The first slot of a table is its header.
@@ -187,13 +220,14 @@ fn object_0_has_no_name(list: &NamedList) -> Option<&str>
 // The pool may have no object 0, or one without bytes.
 fn a_pool_without_an_object_0_has_a_table_without_names<D: SectorDevice>(
     alloc: Global,
+    scope: Scope,
     device: D,
 ) -> (Result<Option<NameTable>, PoolError>, D)
-    ensures { IsTrue D.keeps_model → IfOk result.0 (λ table. (contents : Contents)
-        → MountsTo (bytes_of (D.disk device).now) contents
-        → object_bytes contents.objects 0 ≡ [] → table ≡ Some []) }
+    ensures { IsTrue D.keeps_model → (contents : Contents)
+        → MountsTo (bytes_of (D.disk device).now) contents → object_bytes contents.objects 0 ≡ []
+        → IfOk result.0 (λ table. table ≡ Some []) }
 {
-    read_table(alloc, device)
+    read_table(alloc, scope, device)
 }
 
 // A table has whole slots.

@@ -5,17 +5,16 @@
 ghost use Rattle.std.specs.Prelude.{◌≡◌, IfErr, IfOk, IsTrue};
 ghost use Rattle.base.specs.disk.Disk.{bytes_of};
 ghost use Rattle.device_model.specs.Reading.{OnlyReads};
-ghost use Rattle.named_reads.specs.Tables.{IsTableIn, IsTableOf, IsTableRead};
-ghost use Rattle.read_commands.specs.Reads.{IsReadersRefusal};
+ghost use Rattle.named_reads.specs.Tables.{IsTableChecked, IsTableIn, IsTableOf, IsTableRead, table_range};
+ghost use Rattle.read_commands.specs.Scopes.{IsAssured};
+ghost use Rattle.read_commands.specs.Undone.{IsGetRefused};
 
 use base::{Bytes, OBJECT_COUNT, ObjectId, PoolError, Range};
-use block_cache::{BlockCache, CachedDevice};
+use command_arguments::Scope;
 use device_model::SectorDevice;
-use inspections::view_pool;
-use object_maps::BlockReader;
 use object_names::{NameTable, SLOT_SIZE};
+use read_commands::read_object;
 use std::alloc::Global;
-use std::num::NonZeroUsize;
 
 /// The bytes of object 0 that are read for its table of names: one more than the longest one has.
 pub const TABLE_RANGE: Range = Range {
@@ -55,30 +54,20 @@ fn judge(bytes: Bytes) -> Option<NameTable>
 /// another use. It makes no write and no flush, also if it is refused.
 ///
 /// # Errors
-/// Those of `view_pool`, and those of a read of object 0 but for `NoObject`.
+/// Those of `read_object` for [`TABLE_RANGE`] of object 0, but for `NoObject`.
 pub fn read_table<D: SectorDevice>(
     alloc: Global,
+    scope: Scope,
     device: D,
 ) -> (Result<Option<NameTable>, PoolError>, D)
     ensures reads { OnlyReads D.SectorDevice result.0 device result.1 }
-    ensures table { IsTrue D.keeps_model
+    ensures table { IsAssured scope (IsTrue D.keeps_model) (bytes_of (D.disk device).now)
         → IfOk result.0 (IsTableIn (bytes_of (D.disk device).now)) }
-    ensures refused { IfErr result.0 IsReadersRefusal }
+    ensures checked { scope ≡ Scope.Path → IsTrue D.keeps_model
+        → IfOk result.0 (IsTableChecked (bytes_of (D.disk device).now)) }
+    ensures refused { IfErr result.0
+        (IsGetRefused D.SectorDevice scope 0 table_range device result.1) }
 {
-    let cache = BlockCache::new(alloc, NonZeroUsize::MIN);
-    let mut reader = CachedDevice::new(device, cache);
-    let table = view_table(alloc, &mut reader);
-    let (device, _) = reader.into_parts();
-    (table, device)
-}
-
-fn view_table<B: BlockReader>(alloc: Global, reader: &mut B) -> Result<Option<NameTable>, PoolError>
-    ensures reads { OnlyReads B.SectorDevice result reader.old reader.new }
-    ensures table { IsTrue B.keeps_model
-        → IfOk result (IsTableIn (bytes_of (B.disk reader.old).now)) }
-    ensures refused { IfErr result IsReadersRefusal }
-{
-    let view = view_pool(alloc, reader)?;
-    let read = view.read(reader, alloc, ObjectId(0), TABLE_RANGE);
-    table_of(alloc, read)
+    let (read, device) = read_object(alloc, scope, device, ObjectId(0), TABLE_RANGE);
+    (table_of(alloc, read), device)
 }

@@ -3,5 +3,7 @@ mod Findings
 pub mod FoundLabels
 pub mod MountedBytes
 pub mod OnlyRead
+mod PathReads
 pub mod PoolLines
+pub mod ScopedReads
 pub mod Undone

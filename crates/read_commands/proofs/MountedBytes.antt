@@ -5,7 +5,7 @@ use Rattle.std.specs.FinMap as finite
 use Rattle.std.specs.FinMap.{FinMap}
 use Rattle.std.specs.Io.KnownBytes.{Appends}
 use Rattle.std.specs.Ordering.{nat_cmp}
-use Rattle.std.specs.Prelude.{IfOk, IsOkAnd, IsSome, option_map}
+use Rattle.std.specs.Prelude.{IfErr, IfOk, IsOkAnd, IsSome, option_map}
 use Rattle.base.specs.declared.error.PoolError.{PoolError}
 use Rattle.base.specs.declared.error.PoolError.TheVariants.{BadRange, NoObject}
 use Rattle.base.specs.tree.Mount.{MountsTo}
@@ -16,15 +16,8 @@ use Rattle.base.proofs.crash.OneMount.{mounts_agree}
 use Rattle.file_devices.specs.declared.held_file.FileRefusal.{FileRefusal}
 use Rattle.mounted.specs.Ranges.{is_readable}
 use Rattle.tree_blocks.specs.Sources.{object_length, range_in}
-use Rattle.read_commands.specs.Reads.{IsMountedRange, WritesMounted}
+use Rattle.read_commands.specs.Reads.{IsAbsentIn, IsMountedRange, WritesMounted}
 use Rattle.read_commands.specs.declared.failure.Failure.{Failure}
-
-module _ {Dev : Type 0} (keeps : Type 0) (P : Dev → List ℕ → Type 0) (Q : List ℕ → Type 0) where
-  pub read_and_written : (opened : Result Dev FileRefusal) (read : Result (List ℕ) Failure) → IfOk opened (λ device. keeps → IfOk read (P device)) → IsOkAnd read Q
-      → IfOk opened (λ device. keeps → (bytes : List ℕ) × P device bytes × Q bytes)
-  read_and_written (Ok device) (Ok bytes) found written = λ k. (bytes, found k, written)
-  read_and_written (Ok device) (Err failure) found written = absurd written
-  read_and_written (Err cause) read found written = tt
 
 -- what is neither outside the limits nor missing is there
 object_there : (readable : Bool) (found : Option (List ℕ)) (read : Result (List ℕ) PoolError) (bytes : List ℕ) → read ≡ Ok bytes → (readable ≡ false → read ≡ Err BadRange)
@@ -46,6 +39,13 @@ module _ (image : List ℕ) (contents : Contents) (mounts : MountsTo image conte
         subst (λ (m : FinMap nat_cmp (List ℕ)). IsSome (finite.get m object.0)) (sym same) there,
         exact ∙ ap (λ (m : FinMap nat_cmp (List ℕ)). range_in m object range) (sym same),
       )
+
+-- what was refused as missing isn't among them
+pub mounted_absent : (image : List ℕ) (contents : Contents) → MountsTo image contents → (objects : FinMap nat_cmp (List ℕ)) → contents.objects ≡ objects → (object : ℕ) (read : Result (List ℕ) PoolError)
+    → IfErr read (λ e. e ≡ NoObject → object_length objects object ≡ None) → IfErr read (λ e. e ≡ NoObject → IsAbsentIn image object)
+mounted_absent image contents mounts objects same object (Ok bytes) absent = tt
+mounted_absent image contents mounts objects same object (Err e) absent =
+    λ is. (contents, mounts, ap (λ (m : FinMap nat_cmp (List ℕ)). object_length m object) same ∙ absent is)
 
 -- an image mounts one contents, so the bytes of a range are those of any that it mounts
 one_range : (image : List ℕ) (object : ObjectId) (range : Range) (bytes : List ℕ) → IsMountedRange image object.0 range bytes

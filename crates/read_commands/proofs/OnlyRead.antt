@@ -13,7 +13,7 @@ use Rattle.file_devices.specs.declared.held_file.FileRefusal.{FileRefusal}
 use Rattle.inspections.specs.Refused.{IsInspectionRefusal}
 use Rattle.inspections.specs.Views.{IsViewRefusal}
 use Rattle.read_commands.specs.Checks.{StaysOpened}
-use Rattle.read_commands.specs.Reads.{IsMountedRange, IsReadersRefusal}
+use Rattle.read_commands.specs.Reads.{IsReadersRefusal}
 
 pub by_inspection : (size : ℕ) (e : PoolError) → IsInspectionRefusal size e → IsReadersRefusal e
 by_inspection size Write kind = absurd kind.1
@@ -39,7 +39,6 @@ module _ {Dev : Type 0} (D : Ghosts Dev) (opened : Result Dev FileRefusal) (old 
   stays_opened new e reads size disk count = subst (λ (o : Result Dev FileRefusal). StaysOpened D o (Ok new)) (sym is)
       (record { size = size; disk = disk; refused = counted_reading e reads (D.refused old) (D.refused new) count })
 
-  pub range_of_opened : (object : ℕ) (range : Range) (bytes : List ℕ) → (IsTrue D.keeps_model → IsMountedRange (bytes_of (D.disk old).now) object range bytes)
-      → IfOk opened (λ device. IsTrue D.keeps_model → IsMountedRange (bytes_of (D.disk device).now) object range bytes)
-  range_of_opened object range bytes found = subst
-      (λ (o : Result Dev FileRefusal). IfOk o (λ device. IsTrue D.keeps_model → IsMountedRange (bytes_of (D.disk device).now) object range bytes)) (sym is) found
+-- what is so of a device is so of what was opened as it
+pub of_opened : {Dev : Type 0} (opened : Result Dev FileRefusal) (old : Dev) → opened ≡ Ok old → (P : Dev → Type 0) → P old → IfOk opened P
+of_opened opened old is P holds = subst (λ (o : Result Dev FileRefusal). IfOk o P) (sym is) holds

@@ -6,7 +6,7 @@ use Rattle.std.specs.Io.KnownBytes.{Appends}
 use Rattle.std.specs.Prelude.{IfOk, Option, Some, codes}
 use Rattle.std.proofs.KnownBytes.{Appends-trans}
 use Rattle.std.proofs.lemmas.List.{drop_more}
-use Rattle.base.specs.tree.Mount.{MountsTo}
+use Rattle.base.specs.tree.Mount.{IsMounted, Mount, MountsTo}
 use Rattle.base.specs.declared.names.ObjectId.{ObjectId}
 use Rattle.base.specs.disk.Disk.{bytes_of}
 use Rattle.base.specs.formats.Geometry.{block_count}
@@ -17,7 +17,9 @@ use Rattle.file_devices.specs.declared.held_file.FileRefusal.{FileRefusal}
 use Rattle.inspections.specs.Inspections.{AgreesWithImports, IsInspectionOf, IsToldOf}
 use Rattle.inspections.specs.declared.inspection.Inspected.{Inspected}
 use Rattle.read_commands.specs.Failures.{sector_bytes}
-use Rattle.read_commands.specs.PoolLines.{WritesInspected, created_line, listed_lines, object_line, object_lines, shown_lines}
+use Rattle.object_views.specs.Listings.{IsListingOf, IsListingOfMount}
+use Rattle.object_views.specs.declared.listing.ListedPool.{ListedPool}
+use Rattle.read_commands.specs.PoolLines.{WritesInspected, WritesListing, created_line, fast_lines, object_line, object_lines, shown_lines}
 use Rattle.read_commands.proofs.MountedBytes.{appended}
 
 -- one line more is written
@@ -39,24 +41,19 @@ pub inspected_written : {Dev : Type 0} (D : Ghosts Dev) (lines : Inspected → L
 inspected_written D lines i before after writes (Ok device) mounted agrees = record { inspected = i; mounted = mounted; agrees = agrees; writes = writes }
 inspected_written D lines i before after writes (Err e) mounted agrees = tt
 
+-- the lines of what was listed on a device that was opened are written
+pub listing_written : {Dev : Type 0} (D : Ghosts Dev) (lines : ListedPool → List ℕ) (l : ListedPool) (before after : Option (List ℕ)) → Appends before after (lines l)
+    → (opened : Result Dev FileRefusal) → IfOk opened (λ device. IsTrue D.keeps_model → IsListingOf (bytes_of (D.disk device).now) l)
+    → IfOk opened (λ device. IsTrue D.keeps_model → (m : Mount) → IsMounted (bytes_of (D.disk device).now) m → IsListingOfMount m l)
+    → IfOk opened (λ device. WritesListing (IsTrue D.keeps_model) (bytes_of (D.disk device).now) lines before after)
+listing_written D lines l before after writes (Ok device) listed mounted = record { listing = l; listed = listed; mounted = mounted; writes = writes }
+listing_written D lines l before after writes (Err e) listed mounted = tt
+
 -- an image mounts one contents, so an inspection of it is told of any that it mounts
 pub told_of : (image : List ℕ) (i : Inspected) → IsInspectionOf image i → (contents : Contents) → MountsTo image contents → IsToldOf i contents
 told_of image i (other, told, is) contents (u, chain, mounts) =
     let (same_u, same_chain, same) = mounts_agree image is.u u is.chain chain other contents is.mounts mounts in
     subst (IsToldOf i) same told
-
-seven_line : object_lines ((record { 0 = 7 }, 2) ∷ []) ≡ codes "7 2\n"
-unfolding digits
-seven_line = refl
-
--- what is listed of an image with one object of two bytes, where there were no bytes before
-pub two_listed : (keeps : Type 0) (image : List ℕ) (before after : Option (List ℕ)) → keeps → (contents : Contents) → MountsTo image contents
-    → finite.entries contents.objects ≡ (7, 10 ∷ 11 ∷ []) ∷ [] → before ≡ Some [] → WritesInspected keeps image listed_lines before after → after ≡ Some (codes "7 2\n")
-two_listed keeps image before after kept contents mounts alone empty w =
-    let told = told_of image w.inspected (w.mounted kept) contents mounts in
-    let row : ℕ × List ℕ → ObjectId × ℕ = λ e. (record { 0 = e.0 }, length e.1) in
-    appended after (listed_lines w.inspected) (subst (λ (b : Option (List ℕ)). Appends b after (listed_lines w.inspected)) empty w.writes)
-    ∙ ap (λ (l : List (ObjectId × ℕ)). Some (object_lines l)) (told.objects_are ∙ ap (map row) alone) ∙ ap Some seven_line
 
 -- lines with this name begin with it
 begins : (name rest more : List ℕ) → name ≡ codes "tank" → (codes "name " ++ (name ++ (codes "\nguid " ++ rest))) ++ more ≡ codes "name tank\nguid " ++ (rest ++ more)
@@ -68,7 +65,7 @@ pub tank_shown : (keeps : Type 0) (image : List ℕ) (before after : Option (Lis
 tank_shown keeps image before after kept contents mounts tank empty w =
     let told = told_of image w.inspected (w.mounted kept) contents mounts in
     let is = appended after (shown_lines w.inspected) (subst (λ (b : Option (List ℕ)). Appends b after (shown_lines w.inspected)) empty w.writes) in
-    (_, is ∙ ap Some (begins w.inspected.name _ (listed_lines w.inspected) (told.name_is ∙ tank)))
+    (_, is ∙ ap Some (begins w.inspected.name _ (object_lines w.inspected.objects.items) (told.name_is ∙ tank)))
 
 -- the line of a new pool of 8 MiB
 tank_line : created_line (codes "tank") (block_count (sector_bytes 8388608)) ≡ codes "created tank 896 blocks\n"
@@ -78,3 +75,11 @@ tank_line = refl
 pub tank_created : (before after : Option (List ℕ)) → before ≡ Some [] → Appends before after (created_line (codes "tank") (block_count (sector_bytes 8388608)))
     → after ≡ Some (codes "created tank 896 blocks\n")
 tank_created before after empty writes = appended after _ (subst (λ (b : Option (List ℕ)). Appends b after (created_line (codes "tank") (block_count (sector_bytes 8388608)))) empty writes) ∙ ap Some tank_line
+
+-- what is shown fast of an image with a pool of this name begins with it
+pub tank_shown_fast : (keeps : Type 0) (image : List ℕ) (before after : Option (List ℕ)) → keeps → (m : Mount) → IsMounted image m
+    → m.contents.name ≡ codes "tank" → before ≡ Some [] → WritesListing keeps image fast_lines before after → (rest : List ℕ) × (after ≡ Some (codes "name tank\nguid " ++ rest))
+tank_shown_fast keeps image before after kept m mounted tank empty w =
+    let l = w.listing in
+    let is = appended after (fast_lines l) (subst (λ (b : Option (List ℕ)). Appends b after (fast_lines l)) empty w.writes) in
+    (_, is ∙ ap Some (begins l.name _ (object_lines l.objects.items) ((w.mounted kept m mounted).name_is ∙ tank)))

@@ -10,6 +10,7 @@ use Rattle.base.specs.disk.Disk.{bytes_of}
 use Rattle.base.specs.formats.Geometry.{IsGeometry}
 use Rattle.base.specs.history.Contents.{Contents}
 use Rattle.base.specs.tree.Mount.{MountsTo}
+use Rattle.command_arguments.specs.declared.reports.Scope.{Scope}
 use Rattle.device_model.specs.declared.device.SectorDevice.{Ghosts}
 use Rattle.file_devices.specs.declared.held_file.FileRefusal.{FileRefusal}
 use Rattle.inspections.specs.Inspections.{IsInspectionOf}
@@ -17,7 +18,8 @@ use Rattle.inspections.specs.declared.inspection.Inspected.{Inspected}
 use Rattle.read_commands.specs.Checks.{IsCheckRefusal, MountsWhole}
 use Rattle.read_commands.specs.Failures.{IsFailureFor, failure_status, refusal_of}
 use Rattle.read_commands.specs.Reads.{IsMountedRange}
-use Rattle.read_commands.specs.Undone.{EndsUndone, GetsUndone, HasRange, HasWholePool, IsCheckRefused, IsLookFailure, IsReadRefused}
+use Rattle.read_commands.specs.Scopes.{IsAssured}
+use Rattle.read_commands.specs.Undone.{EndsUndone, GetsUndone, HasRange, HasWholePool, IsCheckRefused, IsGetRefused, IsLookFailure}
 use Rattle.read_commands.specs.declared.failure.Failure.{Failure}
 use Rattle.read_commands.specs.declared.failure.Failure.TheVariants.{OutOfRange, Refused, RefusedCall, Unusable, Unwritten}
 use Rattle.read_commands.proofs.MountedBytes.{never_absent}
@@ -57,26 +59,29 @@ module _ {Dev : Type 0} (D : Ghosts Dev) (opened : Result Dev FileRefusal) where
   pub whole_found : (i : Inspected) → IfOk opened (λ device. IsTrue D.keeps_model → IsInspectionOf (bytes_of (D.disk device).now) i) → IfOk opened (HasWholePool D)
   whole_found i found = IfOk-weaker opened _ _ (λ device mounted keeps. whole_of _ i (mounted keeps)) found
 
-  pub range_found : (object : ℕ) (range : Range) (read : Result (List ℕ) Failure) (bytes : List ℕ) → read ≡ Ok bytes
-      → IfOk opened (λ device. IsTrue D.keeps_model → IfOk read (IsMountedRange (bytes_of (D.disk device).now) object range)) → IfOk opened (HasRange D object range)
-  range_found object range read bytes is found =
-      IfOk-weaker opened _ _ (λ device mounted keeps. (bytes, subst (λ (r : Result (List ℕ) Failure). IfOk r (IsMountedRange (bytes_of (D.disk device).now) object range)) is (mounted keeps))) found
+  module _ (scope : Scope) where
+    range_found : (object : ℕ) (range : Range) (read : Result (List ℕ) Failure) (bytes : List ℕ) → read ≡ Ok bytes
+        → IfOk opened (λ device. IsAssured scope (IsTrue D.keeps_model) (bytes_of (D.disk device).now) → IfOk read (IsMountedRange (bytes_of (D.disk device).now) object range))
+        → IfOk opened (HasRange D scope object range)
+    range_found object range read bytes is found = IfOk-weaker opened _ _
+        (λ device mounted assured. (bytes, subst (λ (r : Result (List ℕ) Failure). IfOk r (IsMountedRange (bytes_of (D.disk device).now) object range)) is (mounted assured))) found
 
-  -- what was read of a range was not written, or was not read
-  pub get_undone : (after : Result Dev FileRefusal) (object : ℕ) (range : Range) (read : Result (List ℕ) Failure) (end : Result (Unit {0}) Failure) (why : Failure) (status : ℕ) → end ≡ Err why → status ≡ failure_status why
-      → IfErr read (IsLookFailure IsReadRefused opened after) → IfOk opened (λ device. IsTrue D.keeps_model → IfOk read (IsMountedRange (bytes_of (D.disk device).now) object range))
-      → IfErr read (λ failure. end ≡ Err failure) → (IsOk read → IfErr end (λ failure. failure ≡ Unwritten)) → GetsUndone D object range opened after status
-  get_undone after object range (Ok bytes) (Err why) last status ended is look found handed unwritten =
-      inr (is ∙ ap failure_status (same ∙ unwritten refl), range_found object range (Ok bytes) bytes refl found)
-    where
-      same : last ≡ why
-      same = cc
-  get_undone after object range (Err failure) end last status ended is look found handed unwritten =
-      inl (failure, look, is ∙ ap failure_status same)
-    where
-      same : last ≡ failure
-      same = let e : end ≡ Err failure = handed in cc
-  get_undone after object range (Ok bytes) (Ok done) last status ended is look found handed unwritten = cc
+    -- what was read of a range was not written, or was not read
+    pub get_undone : (after : Result Dev FileRefusal) (object : ℕ) (range : Range) (read : Result (List ℕ) Failure) (end : Result (Unit {0}) Failure) (why : Failure) (status : ℕ) → end ≡ Err why → status ≡ failure_status why
+        → IfErr read (IsLookFailure (IsGetRefused D scope object range) opened after)
+        → IfOk opened (λ device. IsAssured scope (IsTrue D.keeps_model) (bytes_of (D.disk device).now) → IfOk read (IsMountedRange (bytes_of (D.disk device).now) object range))
+        → IfErr read (λ failure. end ≡ Err failure) → (IsOk read → IfErr end (λ failure. failure ≡ Unwritten)) → GetsUndone D scope object range opened after status
+    get_undone after object range (Ok bytes) (Err why) last status ended is look found handed unwritten =
+        inr (is ∙ ap failure_status (same ∙ unwritten refl), range_found object range (Ok bytes) bytes refl found)
+      where
+        same : last ≡ why
+        same = cc
+    get_undone after object range (Err failure) end last status ended is look found handed unwritten =
+        inl (failure, look, is ∙ ap failure_status same)
+      where
+        same : last ≡ failure
+        same = let e : end ≡ Err failure = handed in cc
+    get_undone after object range (Ok bytes) (Ok done) last status ended is look found handed unwritten = cc
 
 -- no range of an object is there that isn't there
 pub no_range : (image : List ℕ) (object : ℕ) (range : Range) (contents : Contents) → MountsTo image contents → finite.get contents.objects object ≡ None

@@ -2,6 +2,9 @@ pub mod Checks
 pub mod Failures
 pub mod FoundDamages
 pub mod FoundLabels
+pub mod PathReads
 pub mod PoolLines
 pub mod Reads
+pub mod ReadScopes
+pub mod Scopes
 pub mod Undone

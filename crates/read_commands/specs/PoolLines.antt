@@ -4,8 +4,11 @@ use Rattle.std.specs.Fmt.{decimal}
 use Rattle.std.specs.Io.KnownBytes.{Appends}
 use Rattle.std.specs.List.{flat_map}
 use Rattle.base.specs.declared.names.ObjectId.{ObjectId}
+use Rattle.base.specs.tree.Mount.{IsMounted, Mount}
 use Rattle.inspections.specs.Inspections.{AgreesWithImports, IsInspectionOf}
 use Rattle.inspections.specs.declared.inspection.Inspected.{Inspected}
+use Rattle.object_views.specs.Listings.{IsListingOf, IsListingOfMount}
+use Rattle.object_views.specs.declared.listing.ListedPool.{ListedPool}
 
 -- the line of a new pool of this name with so many blocks
 abbrev pub created_line : List ℕ → ℕ → List ℕ
@@ -18,10 +21,6 @@ object_line object = decimal object.0.0 ++ (codes " " ++ (decimal object.1 ++ co
 abbrev pub object_lines : List (ObjectId × ℕ) → List ℕ
 object_lines = flat_map object_line
 
--- what is written of the objects of a pool
-abbrev pub listed_lines : Inspected → List ℕ
-listed_lines i = object_lines i.objects.items
-
 -- the lines with the name and the numbers of a pool
 abbrev pub number_lines : Inspected → List ℕ
 number_lines i =
@@ -31,7 +30,7 @@ number_lines i =
 
 -- what is written of a pool: these lines, and then one for each object
 abbrev pub shown_lines : Inspected → List ℕ
-shown_lines i = number_lines i ++ listed_lines i
+shown_lines i = number_lines i ++ object_lines i.objects.items
 
 -- The lines of an inspection were written. It is what the image of a device that keeps the model mounts, and what each
 -- import of it mounts.
@@ -40,3 +39,21 @@ pub record WritesInspected (keeps : Type 0) (image : List ℕ) (lines : Inspecte
   pub mounted : keeps → IsInspectionOf image inspected
   pub agrees : keeps → AgreesWithImports image inspected
   pub writes : Appends old new (lines inspected)
+
+-- the lines with the name and the numbers of a pool of which the blocks in use aren't known, and then one for each object
+abbrev pub fast_number_lines : ListedPool → List ℕ
+fast_number_lines l =
+    codes "name " ++ (l.name ++ (codes "\nguid " ++ (decimal l.guid ++ (codes "\ngroup " ++ (decimal l.group.0 ++ (codes "\nimport " ++ (decimal l.import_number
+    ++ (codes "\nblocks " ++ (decimal l.blocks ++ (codes "\nrecords " ++ (decimal l.records
+    ++ (codes "\nobjects " ++ (decimal (length l.objects.items) ++ codes "\n")))))))))))))
+
+abbrev pub fast_lines : ListedPool → List ℕ
+fast_lines l = fast_number_lines l ++ object_lines l.objects.items
+
+-- The lines of a listing were written. On a device that keeps the model it is what the root and the directories of the
+-- image say, with the records of its log. If the image mounts, it is of what it mounts.
+pub record WritesListing (keeps : Type 0) (image : List ℕ) (lines : ListedPool → List ℕ) (old new : Option (List ℕ)) : Type 0 where
+  pub listing : ListedPool
+  pub listed : keeps → IsListingOf image listing
+  pub mounted : keeps → (m : Mount) → IsMounted image m → IsListingOfMount m listing
+  pub writes : Appends old new (lines listing)

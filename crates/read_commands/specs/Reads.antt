@@ -8,7 +8,7 @@ use Rattle.base.specs.declared.error.PoolError.TheVariants.{Flush, Write}
 use Rattle.base.specs.declared.range.Range.{Range}
 use Rattle.base.specs.formats.Limits.{max_length}
 use Rattle.base.specs.history.Contents.{Contents}
-use Rattle.tree_blocks.specs.Sources.{range_in}
+use Rattle.tree_blocks.specs.Sources.{object_length, range_in}
 use Rattle.command_arguments.specs.declared.arguments.GetArguments.{GetArguments}
 
 -- the range that is asked for, up to the greatest length
@@ -31,6 +31,10 @@ MountsRange image object range = (bytes : List ℕ) × IsMountedRange image obje
 -- they were written after what the writer had, if that is known
 abbrev pub WritesMounted : List ℕ → ℕ → Range → Option (List ℕ) → Option (List ℕ) → Type 0
 WritesMounted image object range old new = (bytes : List ℕ) × IsMountedRange image object range bytes × Appends old new bytes
+
+-- the image mounts contents without this object
+abbrev pub IsAbsentIn : List ℕ → ℕ → Type 0
+IsAbsentIn image object = (contents : Contents) × MountsTo image contents × (object_length contents.objects object ≡ None)
 
 -- a refusal of what only reads: no write and no flush was refused
 abbrev pub IsReadersRefusal : PoolError → Type 0

@@ -5,10 +5,15 @@ use Rattle.base.specs.declared.range.Range.{Range}
 use Rattle.base.specs.disk.Disk.{bytes_of}
 use Rattle.device_model.specs.declared.device.SectorDevice.{Ghosts}
 use Rattle.file_devices.specs.declared.held_file.FileRefusal.{FileRefusal}
+use Rattle.command_arguments.specs.declared.reports.Scope.{Scope}
+use Rattle.command_arguments.specs.declared.reports.Scope.TheVariants as scope
 use Rattle.inspections.specs.Refused.{IsInspectionRefused}
+use Rattle.object_views.specs.Listings.{IsListingRefused}
 use Rattle.read_commands.specs.Checks.{IsCheckRefusal, MountsWhole}
 use Rattle.read_commands.specs.Failures.{IsFailureFor, failure_status}
+use Rattle.read_commands.specs.PathReads.{IsPathRefusal}
 use Rattle.read_commands.specs.Reads.{IsReadersRefusal, MountsRange}
+use Rattle.read_commands.specs.Scopes.{IsAssured}
 use Rattle.read_commands.specs.declared.failure.Failure.{Failure}
 use Rattle.read_commands.specs.declared.failure.Failure.TheVariants.{Unusable}
 
@@ -23,28 +28,31 @@ IsLookFailure R (Ok old) (Err cause) why = ⊥
 abbrev pub EndsUndone : {Dev : Type 0} → (Dev → Dev → PoolError → Type 0) → (Dev → Type 0) → Result Dev FileRefusal → Result Dev FileRefusal → ℕ → Type 0
 EndsUndone R F opened after status = ((why : Failure) × IsLookFailure R opened after why × (status ≡ failure_status why)) ⊎ ((status ≡ 3) × IfOk opened F)
 
--- the engine refused to read for this, be it of the device what it may
-abbrev pub IsReadRefused : {Dev : Type 0} → Dev → Dev → PoolError → Type 0
-IsReadRefused old new e = IsReadersRefusal e
-
 module _ {Dev : Type 0} (D : Ghosts Dev) where
   -- a check of a device was refused so
   abbrev pub IsCheckRefused : Dev → Dev → PoolError → Type 0
   IsCheckRefused old new e = IsCheckRefusal (D.size old) e
 
+  -- a read of a range of an object was refused so, and a list of the objects
+  abbrev pub IsGetRefused : Scope → ℕ → Range → Dev → Dev → PoolError → Type 0
+  IsGetRefused scope.Whole object range old new e = IsReadersRefusal e
+  IsGetRefused scope.Path object range old new e = IsPathRefusal (IsTrue D.keeps_model) (bytes_of (D.disk old).now) object range e
+
+  abbrev pub IsListRefused : Scope → Dev → Dev → PoolError → Type 0
+  IsListRefused scope.Whole old new e = IsInspectionRefused D old new e
+  IsListRefused scope.Path old new e = IsListingRefused D old new e
+
   -- the device has a whole pool, if it keeps the model; and there is such a range of an object in it
   abbrev pub HasWholePool : Dev → Type 0
   HasWholePool device = IsTrue D.keeps_model → MountsWhole (bytes_of (D.disk device).now)
 
-  abbrev pub HasRange : ℕ → Range → Dev → Type 0
-  HasRange object range device = IsTrue D.keeps_model → MountsRange (bytes_of (D.disk device).now) object range
+  abbrev pub HasRange : Scope → ℕ → Range → Dev → Type 0
+  HasRange scope object range device =
+      IsAssured scope (IsTrue D.keeps_model) (bytes_of (D.disk device).now) → MountsRange (bytes_of (D.disk device).now) object range
 
-  -- a command that writes what an inspection finds ended so, one that lists names, and one that writes a range
+  -- a command that writes what an inspection finds ended so, and one that writes a range
   abbrev pub InspectsUndone : Result Dev FileRefusal → Result Dev FileRefusal → ℕ → Type 0
   InspectsUndone opened after status = EndsUndone (IsInspectionRefused D) HasWholePool opened after status
 
-  abbrev pub ListsUndone : Result Dev FileRefusal → Result Dev FileRefusal → ℕ → Type 0
-  ListsUndone opened after status = EndsUndone IsReadRefused HasWholePool opened after status
-
-  abbrev pub GetsUndone : ℕ → Range → Result Dev FileRefusal → Result Dev FileRefusal → ℕ → Type 0
-  GetsUndone object range opened after status = EndsUndone IsReadRefused (HasRange object range) opened after status
+  abbrev pub GetsUndone : Scope → ℕ → Range → Result Dev FileRefusal → Result Dev FileRefusal → ℕ → Type 0
+  GetsUndone scope object range opened after status = EndsUndone (IsGetRefused scope object range) (HasRange scope object range) opened after status

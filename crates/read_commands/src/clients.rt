@@ -5,7 +5,7 @@ mod all_checks;
 mod objects;
 
 ghost use Rattle.std.specs.Prelude.{◌≡◌, ◌≢◌, ◌⊎◌, ◌++◌, ℕ, List, [], IfErr, IfOk, IsOk, IsTrue, Some, codes};
-ghost use Rattle.base.specs.tree.Mount.{IsTreeDamaged, MountsTo};
+ghost use Rattle.base.specs.tree.Mount.{IsMounted, IsTreeDamaged, Mount, MountsTo};
 ghost use Rattle.base.specs.disk.Disk.{bytes_of};
 ghost use Rattle.base.specs.formats.Geometry.{IsGeometry};
 ghost use Rattle.base.specs.history.Contents.{Contents};
@@ -16,7 +16,7 @@ ghost use Rattle.read_commands.specs.declared.checks.Finding.TheVariants.{Damage
 
 use crate::checks::{Finding, check_opened, check_pool, run_check};
 use crate::failure::{Failure, NotesRefusals, report_failure};
-use crate::show::run_show;
+use crate::show::{run_show, run_show_fast};
 use base::PoolError;
 use command_arguments::Verbosity;
 use device_model::SectorDevice;
@@ -90,6 +90,21 @@ fn a_show_begins_with_the_name<D: SectorDevice + NotesRefusals + Drop, W: Write,
         → (rest : List ℕ) × (W.contents out.new ≡ Some (codes "name tank\nguid " ++ rest)) }
 {
     run_show(alloc, "tank.pool", BRIEF, &mut Ok(device), out, errors)
+}
+
+// The output had no bytes before.
+fn a_fast_show_begins_with_the_name<D: SectorDevice + NotesRefusals + Drop, W: Write, E: Write>(
+    alloc: Global,
+    device: D,
+    out: &mut W,
+    errors: &mut E,
+) -> u8
+    ensures { result ≡ 0 → IsTrue D.keeps_model → (m : Mount)
+        → IsMounted (bytes_of (D.disk device).now) m → m.contents.name ≡ codes "tank"
+        → W.contents out.old ≡ Some []
+        → (rest : List ℕ) × (W.contents out.new ≡ Some (codes "name tank\nguid " ++ rest)) }
+{
+    run_show_fast(alloc, "tank.pool", BRIEF, &mut Ok(device), out, errors)
 }
 
 // Whatever a show finds, it leaves the disk as it was, and the device refused no write and no flush.

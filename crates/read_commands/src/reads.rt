@@ -3,26 +3,26 @@
 ghost use Rattle.std.specs.Io.KnownBytes.{Appends};
 ghost use Rattle.std.specs.Prelude.{◌≡◌, ◌≢◌, ◌≤◌, Err, IfErr, IfOk, IsErr, IsOk, IsOkAnd, IsTrue, OnOk};
 ghost use Rattle.base.specs.disk.Disk.{bytes_of};
-ghost use Rattle.device_model.specs.Reading.{OnlyReads};
 ghost use Rattle.read_commands.specs.Checks.{StaysOpened};
-ghost use Rattle.read_commands.specs.Reads.{IsMountedRange, IsReadersRefusal, WritesMounted, asked_range};
-ghost use Rattle.read_commands.specs.Undone.{GetsUndone, IsLookFailure, IsReadRefused};
+ghost use Rattle.read_commands.specs.PathReads.{IsCheckedRange};
+ghost use Rattle.read_commands.specs.ReadScopes.{WritesRange};
+ghost use Rattle.read_commands.specs.Reads.{IsMountedRange, asked_range};
+ghost use Rattle.read_commands.specs.Scopes.{IsAssured};
+ghost use Rattle.read_commands.specs.Undone.{GetsUndone, IsGetRefused, IsLookFailure};
 
 use crate::bad_number::BadNumber;
 use crate::failure::{Failure, NotesRefusals, report_failure};
-use base::{Bytes, MAX_LENGTH, ObjectId, PoolError, Range};
-use block_cache::{BlockCache, CachedDevice};
-use command_arguments::{GetArguments, Verbosity};
+use crate::ranges::read_object;
+use base::{Bytes, MAX_LENGTH, ObjectId, Range};
+use command_arguments::{GetArguments, Scope, Verbosity};
 use device_model::SectorDevice;
 use file_devices::FileRefusal;
-use inspections::view_pool;
-use object_maps::BlockReader;
 use std::alloc::Global;
 use std::io::Write;
-use std::num::NonZeroUsize;
 
 /// Writes to `out` the bytes of an object of the pool in a file, and nothing else. Returns the exit status, and what
-/// was opened. It only reads the file: it makes no write and no flush, whatever it returns.
+/// was opened. It only reads the file: it makes no write and no flush, whatever it returns. If the scope is a path, it
+/// reads the blocks that lead to these bytes alone, and finds no damage of another.
 ///
 /// The status is 0 if all was written. It is 1 if the engine refused it, as it does if there is no such object, and 3
 /// if the file was not opened as a device or `out` can't be written. A failure is reported on `errors`. Nothing is
@@ -30,6 +30,7 @@ use std::num::NonZeroUsize;
 pub fn run_get<D: SectorDevice + NotesRefusals, W: Write, E: Write>(
     alloc: Global,
     arguments: GetArguments<'_>,
+    scope: Scope,
     verbosity: Verbosity,
     opened: Result<D, FileRefusal>,
     out: &mut W,
@@ -37,16 +38,17 @@ pub fn run_get<D: SectorDevice + NotesRefusals, W: Write, E: Write>(
 ) -> (u8, Result<D, FileRefusal>)
     ensures only_read { StaysOpened D.SectorDevice opened result.1 }
     ensures unusable { IsErr opened → result.0 ≡ 3 }
-    ensures written { result.0 ≡ 0 → IfOk opened (λ device. IsTrue D.keeps_model
-        → WritesMounted (bytes_of (D.disk device).now) arguments.entry.object
-        (asked_range arguments.entry) (W.contents out.old) (W.contents out.new)) }
-    ensures undone { result.0 ≢ 0 → GetsUndone D.SectorDevice arguments.entry.object
+    ensures written { result.0 ≡ 0 → IfOk opened (λ device.
+        WritesRange scope (IsTrue D.keeps_model) (bytes_of (D.disk device).now)
+        arguments.entry.object (asked_range arguments.entry)
+        (W.contents out.old) (W.contents out.new)) }
+    ensures undone { result.0 ≢ 0 → GetsUndone D.SectorDevice scope arguments.entry.object
         (asked_range arguments.entry) opened result.1 result.0 }
     ensures unprinted { result.0 ≡ 1 → W.contents out.new ≡ W.contents out.old }
     ensures range { result.0 ≤ 3 }
     ensures no_usage { result.0 ≢ 2 }
 {
-    let (read, opened) = get_bytes(alloc, arguments, opened);
+    let (read, opened) = get_bytes(alloc, arguments, scope, opened);
     match write_read(read, out) {
         Ok(()) => (0, opened),
         Err(failure) => (
@@ -77,28 +79,27 @@ fn write_read<W: Write>(read: Result<Bytes, Failure>, out: &mut W) -> Result<(),
 fn get_bytes<D: SectorDevice + NotesRefusals>(
     alloc: Global,
     arguments: GetArguments<'_>,
+    scope: Scope,
     opened: Result<D, FileRefusal>,
 ) -> (Result<Bytes, Failure>, Result<D, FileRefusal>)
     ensures only_read { StaysOpened D.SectorDevice opened result.1 }
     ensures unusable { IfErr opened (λ cause. result.0 ≡ Err (Failure.Unusable cause)) }
-    ensures bytes { IfOk opened (λ device. IsTrue D.keeps_model → IfOk result.0
+    ensures bytes { IfOk opened (λ device. IsAssured scope (IsTrue D.keeps_model)
+        (bytes_of (D.disk device).now) → IfOk result.0
         (IsMountedRange (bytes_of (D.disk device).now) arguments.entry.object
         (asked_range arguments.entry))) }
-    ensures failed { IfErr result.0 (IsLookFailure IsReadRefused opened result.1) }
+    ensures checked { IfOk opened (λ device. scope ≡ Scope.Path → IsTrue D.keeps_model
+        → IfOk result.0 (IsCheckedRange (bytes_of (D.disk device).now)
+        arguments.entry.object (asked_range arguments.entry))) }
+    ensures failed { IfErr result.0 (IsLookFailure (IsGetRefused D.SectorDevice scope
+        arguments.entry.object (asked_range arguments.entry)) opened result.1) }
 {
     let device = match opened {
         Ok(device) => device,
         Err(cause) => return (Err(Failure::Unusable(cause)), Err(cause)),
     };
-    let cache = BlockCache::new(alloc, NonZeroUsize::MIN);
-    let mut reader = CachedDevice::new(device, cache);
-    let read = read_range(
-        alloc,
-        &mut reader,
-        ObjectId(arguments.object),
-        range_of(&arguments),
-    );
-    let (device, _) = reader.into_parts();
+    let object = ObjectId(arguments.object);
+    let (read, device) = read_object(alloc, scope, device, object, range_of(&arguments));
     match read {
         Ok(bytes) => (Ok(bytes), Ok(device)),
         Err(refusal) => {
@@ -120,22 +121,6 @@ fn bad_number(arguments: &GetArguments<'_>) -> Option<BadNumber> {
     } else {
         None
     }
-}
-
-// The bytes of a range of an object in what an import would mount.
-fn read_range<B: BlockReader>(
-    alloc: Global,
-    reader: &mut B,
-    object: ObjectId,
-    range: Range,
-) -> Result<Bytes, PoolError>
-    ensures reads { OnlyReads B.SectorDevice result reader.old reader.new }
-    ensures bytes { IsTrue B.keeps_model → IfOk result
-        (IsMountedRange (bytes_of (B.disk reader.old).now) object.0 range) }
-    ensures refused { IfErr result IsReadersRefusal }
-{
-    let view = view_pool(alloc, reader)?;
-    view.read(reader, alloc, object, range)
 }
 
 // The range that is asked for, up to the last byte that an object may have. It has no byte if the offset is there or

@@ -11,31 +11,31 @@ use Rattle.base.specs.formats.Geometry.{block_count}
 use Rattle.base.specs.formats.Limits.{one_level_length}
 use Rattle.base.specs.history.Contents.{Contents}
 use Rattle.inspections.specs.declared.inspection.Inspected.{Inspected}
+use Rattle.command_arguments.specs.declared.reports.Scope.{Scope}
 use Rattle.command_arguments.specs.declared.reports.SpaceUnit.TheVariants as unit
 use Rattle.report_commands.specs.Json.{json_listed, json_objects, json_shown}
 use Rattle.report_commands.specs.JsonLabels.{PrintsLabels, json_active, json_config, json_found_label, json_four, json_ring}
 use Rattle.report_commands.specs.ObjectBlocks.{long_line, long_lines}
 use Rattle.read_commands.specs.PoolLines.{WritesInspected}
+use Rattle.read_commands.specs.ReadScopes.{WritesObjects}
 use Rattle.report_commands.specs.Space.{amount_text, block_bytes, pool_space_lines, space_lines}
 use Rattle.read_commands.proofs.MountedBytes.{appended}
 use Rattle.read_commands.proofs.PoolLines.{told_of}
+use Rattle.read_commands.proofs.ScopedReads.{assured, seven_listed}
 
 -- what is printed of the objects is of this object alone
-two_told : (lines : Inspected → List ℕ) (of : List (ObjectId × ℕ) → List ℕ) → ((i : Inspected) → lines i ≡ of i.objects.items)
-    → (keeps : Type 0) (image : List ℕ) (before after : Option (List ℕ)) → keeps → (contents : Contents) → MountsTo image contents
-    → finite.entries contents.objects ≡ (7, 10 ∷ 11 ∷ []) ∷ [] → before ≡ Some [] → WritesInspected keeps image lines before after
-    → after ≡ Some (of ((record { 0 = 7 }, 2) ∷ []))
-two_told lines of are keeps image before after kept contents mounts alone empty w =
-    let told = told_of image w.inspected (w.mounted kept) contents mounts in
-    let row : ℕ × List ℕ → ObjectId × ℕ = λ e. (record { 0 = e.0 }, length e.1) in
-    appended after (lines w.inspected) (subst (λ (b : Option (List ℕ)). Appends b after (lines w.inspected)) empty w.writes)
-    ∙ ap Some (are w.inspected) ∙ ap (λ (l : List (ObjectId × ℕ)). Some (of l)) (told.objects_are ∙ ap (map row) alone)
+two_told : (lines : List (ObjectId × ℕ) → List ℕ) (scope : Scope) (keeps : Type 0) (image : List ℕ) (before after : Option (List ℕ)) → keeps → (contents : Contents) → MountsTo image contents
+    → finite.entries contents.objects ≡ (7, 10 ∷ 11 ∷ []) ∷ [] → before ≡ Some [] → WritesObjects scope keeps image lines before after
+    → after ≡ Some (lines ((record { 0 = 7 }, 2) ∷ []))
+two_told lines scope keeps image before after kept contents mounts alone empty w =
+    appended after (lines w.objects) (subst (λ (b : Option (List ℕ)). Appends b after (lines w.objects)) empty w.writes)
+    ∙ ap (λ (l : List (ObjectId × ℕ)). Some (lines l)) (seven_listed image w.objects (w.mounted (assured scope keeps image kept (contents, mounts))) contents mounts alone)
 
-long_seven : flat_map long_line ((record { 0 = 7 }, 2) ∷ []) ≡ codes "7 2 2\n"
+long_seven : long_lines ((record { 0 = 7 }, 2) ∷ []) ≡ codes "7 2 2\n"
 unfolding digits one_level_length
 long_seven = refl
 
-json_seven : codes "{\"objects\":" ++ json_objects ((record { 0 = 7 }, 2) ∷ []) ≡ codes "{\"objects\":[{\"object\":7,\"length\":2,\"blocks\":2}]}\n"
+json_seven : json_listed ((record { 0 = 7 }, 2) ∷ []) ≡ codes "{\"objects\":[{\"object\":7,\"length\":2,\"blocks\":2}]}\n"
 unfolding digits one_level_length
 json_seven = refl
 
@@ -44,14 +44,15 @@ begins : (name rest more : List ℕ) → name ≡ codes "tank"
     → (codes "{\"name\":\"" ++ (name ++ (codes "\",\"guid\":\"" ++ rest))) ++ more ≡ codes "{\"name\":\"tank\",\"guid\":\"" ++ (rest ++ more)
 begins name rest more tank = ap (λ (n : List ℕ). (codes "{\"name\":\"" ++ (n ++ (codes "\",\"guid\":\"" ++ rest))) ++ more) tank
 
-module _ (keeps : Type 0) (image : List ℕ) (before after : Option (List ℕ)) (kept : keeps) (contents : Contents) (mounts : MountsTo image contents) (empty : before ≡ Some []) where
-  pub long_told : finite.entries contents.objects ≡ (7, 10 ∷ 11 ∷ []) ∷ [] → WritesInspected keeps image long_lines before after → after ≡ Some (codes "7 2 2\n")
-  long_told alone w = two_told long_lines (flat_map long_line) (λ i. refl) keeps image before after kept contents mounts alone empty w ∙ ap Some long_seven
+module _ (scope : Scope) (keeps : Type 0) (image : List ℕ) (before after : Option (List ℕ)) (kept : keeps) (contents : Contents) (mounts : MountsTo image contents) (empty : before ≡ Some []) where
+  pub long_told : finite.entries contents.objects ≡ (7, 10 ∷ 11 ∷ []) ∷ [] → WritesObjects scope keeps image long_lines before after → after ≡ Some (codes "7 2 2\n")
+  long_told alone w = two_told long_lines scope keeps image before after kept contents mounts alone empty w ∙ ap Some long_seven
 
-  pub json_told : finite.entries contents.objects ≡ (7, 10 ∷ 11 ∷ []) ∷ [] → WritesInspected keeps image json_listed before after
+  pub json_told : finite.entries contents.objects ≡ (7, 10 ∷ 11 ∷ []) ∷ [] → WritesObjects scope keeps image json_listed before after
       → after ≡ Some (codes "{\"objects\":[{\"object\":7,\"length\":2,\"blocks\":2}]}\n")
-  json_told alone w = two_told json_listed (λ l. codes "{\"objects\":" ++ json_objects l) (λ i. refl) keeps image before after kept contents mounts alone empty w ∙ ap Some json_seven
+  json_told alone w = two_told json_listed scope keeps image before after kept contents mounts alone empty w ∙ ap Some json_seven
 
+module _ (keeps : Type 0) (image : List ℕ) (before after : Option (List ℕ)) (kept : keeps) (contents : Contents) (mounts : MountsTo image contents) (empty : before ≡ Some []) where
   -- what is printed of a pool of this name begins with it
   pub json_named : contents.name ≡ codes "tank" → WritesInspected keeps image json_shown before after
       → (rest : List ℕ) × (after ≡ Some (codes "{\"name\":\"tank\",\"guid\":\"" ++ rest))

@@ -29,8 +29,8 @@ json_objects [] = codes "[]}\n"
 json_objects (object ∷ rest) = codes "[" ++ (json_object object ++ (flat_map json_next rest ++ codes "]}\n"))
 
 -- what is printed of the objects of a pool
-abbrev pub json_listed : Inspected → List ℕ
-json_listed i = codes "{\"objects\":" ++ json_objects i.objects.items
+abbrev pub json_listed : List (ObjectId × ℕ) → List ℕ
+json_listed objects = codes "{\"objects\":" ++ json_objects objects
 
 -- the name and the numbers of a pool, up to its objects; the guid is a text, since it may pass 2^53
 abbrev pub json_numbers : Inspected → List ℕ

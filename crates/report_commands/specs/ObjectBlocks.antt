@@ -5,7 +5,6 @@ use Rattle.std.specs.Int.{div_ceil}
 use Rattle.std.specs.List.{flat_map}
 use Rattle.base.specs.declared.names.ObjectId.{ObjectId}
 use Rattle.base.specs.formats.Limits.{one_level_length, record_size}
-use Rattle.inspections.specs.declared.inspection.Inspected.{Inspected}
 
 -- the most blocks that an object of this length has: of its data, of the pointers to them, and a top if it has two levels
 abbrev pub most_blocks : ℕ → ℕ
@@ -18,5 +17,5 @@ long_text object = decimal object.0.0 ++ (codes " " ++ (decimal object.1 ++ (cod
 abbrev pub long_line : ObjectId × ℕ → List ℕ
 long_line object = long_text object ++ codes "\n"
 
-abbrev pub long_lines : Inspected → List ℕ
-long_lines i = flat_map long_line i.objects.items
+abbrev pub long_lines : List (ObjectId × ℕ) → List ℕ
+long_lines = flat_map long_line

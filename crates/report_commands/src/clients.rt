@@ -15,7 +15,7 @@ use crate::json_reports::{run_json_list, run_json_show};
 use crate::long_list::run_long_list;
 use crate::pool_space::{Space, run_space, write_space};
 use base::Group;
-use command_arguments::{ReadCommand, SpaceArguments, SpaceUnit, Verbosity};
+use command_arguments::{ReadCommand, Scope, SpaceArguments, SpaceUnit, Verbosity};
 use device_model::SectorDevice;
 use file_devices::FileRefusal;
 use read_commands::{Labels, NotesRefusals};
@@ -33,6 +33,7 @@ const IN_POWERS: SpaceArguments<'static> = SpaceArguments {
 // Its two bytes need a data block and an indirect block. The output had no bytes before.
 fn a_long_list_has_the_blocks<D: SectorDevice + NotesRefusals + Drop, W: Write, E: Write>(
     alloc: Global,
+    scope: Scope,
     device: D,
     out: &mut W,
     errors: &mut E,
@@ -42,11 +43,21 @@ fn a_long_list_has_the_blocks<D: SectorDevice + NotesRefusals + Drop, W: Write, 
         → finite.entries contents.objects ≡ (7, 10 ∷ 11 ∷ []) ∷ []
         → W.contents out.old ≡ Some [] → W.contents out.new ≡ Some (codes "7 2 2\n") }
 {
-    run_long_list(alloc, "tank.pool", BRIEF, &mut Ok(device), out, errors)
+    let mut opened = Ok(device);
+    run_long_list(
+        alloc,
+        "tank.pool",
+        scope,
+        BRIEF,
+        &mut opened,
+        out,
+        errors,
+    )
 }
 
 fn a_list_is_one_object_of_json<D: SectorDevice + NotesRefusals + Drop, W: Write, E: Write>(
     alloc: Global,
+    scope: Scope,
     device: D,
     out: &mut W,
     errors: &mut E,
@@ -57,7 +68,16 @@ fn a_list_is_one_object_of_json<D: SectorDevice + NotesRefusals + Drop, W: Write
         → W.contents out.old ≡ Some [] → W.contents out.new
         ≡ Some (codes "{\"objects\":[{\"object\":7,\"length\":2,\"blocks\":2}]}\n") }
 {
-    run_json_list(alloc, "tank.pool", BRIEF, &mut Ok(device), out, errors)
+    let mut opened = Ok(device);
+    run_json_list(
+        alloc,
+        "tank.pool",
+        scope,
+        BRIEF,
+        &mut opened,
+        out,
+        errors,
+    )
 }
 
 fn a_report_of_a_pool_begins_with_its_name<

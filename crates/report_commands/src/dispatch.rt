@@ -9,13 +9,14 @@ use crate::long_list::run_long_list;
 use crate::pool_space::run_space;
 use command_arguments::{
     CheckArguments, ListArguments, ListForm, Options, ReadCommand, ReportArguments, ReportForm,
-    SpaceArguments, Verbosity,
+    ShowArguments, ShowForm, SpaceArguments, Verbosity,
 };
 use device_model::SectorDevice;
 use file_devices::{Access, FileRefusal, HeldFile};
 use named_reads::{run_get_named, run_list_named};
 use read_commands::{
     NotesRefusals, open_within, run_check, run_check_all, run_get, run_labels, run_show,
+    run_show_fast,
 };
 use std::alloc::Global;
 use std::io::{self, Write};
@@ -56,8 +57,8 @@ fn file_of(command: ReadCommand<'_>) -> &str {
         ReadCommand::List(arguments) => arguments.file,
         ReadCommand::Space(arguments) => arguments.file,
         ReadCommand::Labels(arguments) => arguments.file,
-        ReadCommand::Get(arguments) => arguments.file,
-        ReadCommand::GetNamed(arguments) => arguments.file,
+        ReadCommand::Get(arguments, _) => arguments.file,
+        ReadCommand::GetNamed(arguments, _) => arguments.file,
     }
 }
 
@@ -83,21 +84,22 @@ pub fn run_opened<D: SectorDevice + NotesRefusals + Drop, W: Write, E: Write>(
         ReadCommand::Labels(arguments) => {
             show_labels(alloc, arguments, verbosity, opened, out, errors)
         }
-        ReadCommand::Get(arguments) => {
-            let (status, _) = run_get(alloc, arguments, verbosity, opened, out, errors);
+        ReadCommand::Get(arguments, scope) => {
+            let (status, _) = run_get(alloc, arguments, scope, verbosity, opened, out, errors);
             status
         }
-        ReadCommand::GetNamed(arguments) => {
-            let (status, _) = run_get_named(alloc, arguments, verbosity, opened, out, errors);
+        ReadCommand::GetNamed(arguments, scope) => {
+            let (status, _) =
+                run_get_named(alloc, arguments, scope, verbosity, opened, out, errors);
             status
         }
     }
 }
 
-// Shows a pool, in lines or as JSON.
+// Shows a pool, in lines with or without the blocks in use, or as JSON.
 fn show<D: SectorDevice + NotesRefusals + Drop, W: Write, E: Write>(
     alloc: Global,
-    arguments: ReportArguments<'_>,
+    arguments: ShowArguments<'_>,
     verbosity: Verbosity,
     opened: Result<D, FileRefusal>,
     out: &mut W,
@@ -110,8 +112,9 @@ fn show<D: SectorDevice + NotesRefusals + Drop, W: Write, E: Write>(
     let file = arguments.file;
     let mut opened = opened;
     match arguments.form {
-        ReportForm::Lines => run_show(alloc, file, verbosity, &mut opened, out, errors),
-        ReportForm::Json => run_json_show(alloc, file, verbosity, &mut opened, out, errors),
+        ShowForm::Fast => run_show_fast(alloc, file, verbosity, &mut opened, out, errors),
+        ShowForm::Lines => run_show(alloc, file, verbosity, &mut opened, out, errors),
+        ShowForm::Json => run_json_show(alloc, file, verbosity, &mut opened, out, errors),
     }
 }
 
@@ -157,17 +160,15 @@ fn list<D: SectorDevice + NotesRefusals + Drop, W: Write, E: Write>(
     ensures range { result ≤ 3 }
     ensures no_usage { result ≢ 2 }
 {
-    let file = arguments.file;
-    match arguments.form {
-        ListForm::Short => run_list_named(alloc, file, verbosity, opened, out, errors),
-        ListForm::Long => {
-            let mut opened = opened;
-            run_long_list(alloc, file, verbosity, &mut opened, out, errors)
+    let ListArguments { file, form, scope } = arguments;
+    let mut opened = opened;
+    match form {
+        ListForm::Short => {
+            let (status, _) = run_list_named(alloc, file, scope, verbosity, opened, out, errors);
+            status
         }
-        ListForm::Json => {
-            let mut opened = opened;
-            run_json_list(alloc, file, verbosity, &mut opened, out, errors)
-        }
+        ListForm::Long => run_long_list(alloc, file, scope, verbosity, &mut opened, out, errors),
+        ListForm::Json => run_json_list(alloc, file, scope, verbosity, &mut opened, out, errors),
     }
 }
 

@@ -8,15 +8,16 @@ ghost use Rattle.std.specs.Prelude.{◌≡◌, ◌≢◌, ◌≤◌, IfOk, IsErr
 ghost use Rattle.base.specs.disk.Disk.{bytes_of};
 ghost use Rattle.read_commands.specs.Checks.{StaysOpened};
 ghost use Rattle.read_commands.specs.PoolLines.{WritesInspected};
+ghost use Rattle.read_commands.specs.ReadScopes.{WritesObjects};
 ghost use Rattle.report_commands.specs.Json.{json_listed, json_next, json_numbers, json_objects, json_shown};
 
 use crate::object_blocks::most_blocks;
 use base::ObjectId;
-use command_arguments::Verbosity;
+use command_arguments::{Scope, Verbosity};
 use device_model::SectorDevice;
 use file_devices::FileRefusal;
 use inspections::Inspected;
-use read_commands::{Failure, NotesRefusals, inspect_opened, report_failure};
+use read_commands::{Failure, NotesRefusals, inspect_opened, list_opened, report_failure};
 use std::alloc::Global;
 use std::fmt;
 use std::io::{self, Write};
@@ -54,12 +55,14 @@ pub fn run_json_show<D: SectorDevice + NotesRefusals, W: Write, E: Write>(
 
 /// Writes to `out` as JSON the objects of the pool in a file, each with its number, its length and the most blocks that
 /// it may have, and returns the exit status. It only reads the file: it makes no write and no flush, whatever it
-/// returns.
+/// returns. If the scope is a path, it reads the root, the directories and the log alone, and finds no damage of another
+/// block.
 ///
 /// The status and what is reported on `errors` are those of `run_show`.
 pub fn run_json_list<D: SectorDevice + NotesRefusals, W: Write, E: Write>(
     alloc: Global,
     file: &str,
+    scope: Scope,
     verbosity: Verbosity,
     opened: &mut Result<D, FileRefusal>,
     out: &mut W,
@@ -68,17 +71,17 @@ pub fn run_json_list<D: SectorDevice + NotesRefusals, W: Write, E: Write>(
     ensures only_read { StaysOpened D.SectorDevice opened.old opened.new }
     ensures unusable { IsErr opened.old → result ≡ 3 }
     ensures listed { result ≡ 0 → IfOk opened.old (λ device.
-        WritesInspected (IsTrue D.keeps_model) (bytes_of (D.disk device).now) json_listed
+        WritesObjects scope (IsTrue D.keeps_model) (bytes_of (D.disk device).now) json_listed
         (W.contents out.old) (W.contents out.new)) }
     ensures unprinted { result ≡ 1 → W.contents out.new ≡ W.contents out.old }
     ensures range { result ≤ 3 }
     ensures no_usage { result ≢ 2 }
 {
-    let inspected = match inspect_opened(alloc, opened) {
-        Ok(inspected) => inspected,
+    let objects = match list_opened(alloc, scope, opened) {
+        Ok(objects) => objects,
         Err(failure) => return report_failure(failure, file, verbosity, errors),
     };
-    match write_listed(&inspected, out) {
+    match write_listed(&objects, out) {
         Ok(()) => 0,
         Err(_) => report_failure(Failure::Unwritten, file, verbosity, errors),
     }
@@ -109,12 +112,12 @@ fn write_numbers<W: Write>(inspected: &Inspected, out: &mut W) -> io::Result<()>
     )
 }
 
-fn write_listed<W: Write>(inspected: &Inspected, out: &mut W) -> io::Result<()>
+fn write_listed<W: Write>(objects: &[(ObjectId, u64)], out: &mut W) -> io::Result<()>
     ensures { OnOk result (Appends (W.contents out.old) (W.contents out.new)
-        (json_listed inspected.now)) }
+        (json_listed objects.now)) }
 {
     write!(out, r#"{{"objects":"#)?;
-    write_objects(&inspected.objects, out)
+    write_objects(objects, out)
 }
 
 // Writes the objects as a list, and closes the report.

@@ -7,7 +7,8 @@
 //!    file holds the file's lock, so one device at a time writes to it.
 //! 2. **[`create`]** makes a pool on a device once. **[`Pool::open`]** opens it, as often as one likes: take this way
 //!    in. [`import`] with [`PoolState`] is for one thread that makes each step itself, and the others are for proofs.
-//!    [`inspect`] only shows what is there.
+//!    [`inspect`] only shows what is there, and reads all of it. [`list_pool`] and [`view_object`] read only the blocks
+//!    that lead to what is asked for.
 //! 3. **A [`Handle`]** makes the calls of a thread. `transact` commits operations whole, or returns why it refused
 //!    them. `fetch` reads a range. To read several as they are at one moment, `lock` them first: nobody changes them
 //!    until they are unlocked. `transact_locked` commits under such locks, so that what was read still stands.
@@ -101,6 +102,7 @@ pub use file_devices::{
 pub use import_replay::{Imported, Limits, create, import};
 pub use inspections::{Inspected, Soundness, View, find_damages, inspect, view_pool};
 pub use mounted::Mounted;
+pub use object_views::{ListedPool, ObjectView, PoolPaths, find_paths, list_pool, view_object};
 pub use pool_core::{Duty, PoolState, Progress, run};
 pub use pool_loops::{Halt, run_beside_loops};
 pub use pool_threads::{Handle, Opened, PIECE_SIZE, Pool};

@@ -1,17 +1,22 @@
 //! What callers rely on of the commands that read objects and labels.
 
-ghost use Rattle.std.specs.Prelude.{◌≡◌, [], ◌∷◌, IfOk, IsOk, IsTrue, None, Ok, Some, codes, length};
+ghost use Rattle.std.specs.Prelude.{◌≡◌, ◌≢◌, [], ◌∷◌, ℕ, IfErr, IfOk, IsOk, IsTrue, List, None, Ok, Some, codes, false, length};
 ghost use Rattle.std.specs.FinMap as finite;
 ghost use Rattle.base.specs.tree.Mount.{MountsTo};
 ghost use Rattle.base.specs.disk.Disk.{bytes_of};
 ghost use Rattle.base.specs.history.Contents.{Contents};
+ghost use Rattle.object_paths.specs.ReadPaths.{IsSoundRecord};
+ghost use Rattle.object_views.specs.ObjectViews.{IsObjectViewOf, is_own, object_of};
+ghost use Rattle.object_views.specs.declared.view.ObjectView.{ObjectView};
 
 use super::BRIEF;
 use crate::failure::NotesRefusals;
 use crate::label_lines::run_labels;
+use crate::lists::{list_objects, list_opened};
+use crate::ranges::read_object;
 use crate::reads::run_get;
-use crate::show::run_list;
-use command_arguments::GetArguments;
+use base::{Bytes, ObjectId, PoolError, Range};
+use command_arguments::{GetArguments, Scope};
 use device_model::SectorDevice;
 use file_devices::FileRefusal;
 use std::alloc::Global;
@@ -30,13 +35,13 @@ fn a_get_writes_the_bytes_that_the_image_mounts<
     D: SectorDevice + NotesRefusals + Drop,
     W: Write,
     E: Write,
->(alloc: Global, device: D, out: &mut W, errors: &mut E) -> u8
+>(alloc: Global, scope: Scope, device: D, out: &mut W, errors: &mut E) -> u8
     ensures { result ≡ 0 → IsTrue D.keeps_model → (contents : Contents)
         → MountsTo (bytes_of (D.disk device).now) contents
         → finite.get contents.objects 7 ≡ Some (10 ∷ 11 ∷ 12 ∷ 13 ∷ [])
         → W.contents out.old ≡ Some [] → W.contents out.new ≡ Some (11 ∷ 12 ∷ []) }
 {
-    let (status, _) = run_get(alloc, TWO_BYTES, BRIEF, Ok(device), out, errors);
+    let (status, _) = run_get(alloc, TWO_BYTES, scope, BRIEF, Ok(device), out, errors);
     status
 }
 
@@ -45,18 +50,19 @@ fn an_object_that_is_missing_is_got_with_status_1<
     D: SectorDevice + NotesRefusals + Drop,
     W: Write,
     E: Write,
->(alloc: Global, device: D, out: &mut W, errors: &mut E) -> u8
+>(alloc: Global, scope: Scope, device: D, out: &mut W, errors: &mut E) -> u8
     ensures { IsTrue D.keeps_model → (contents : Contents)
         → MountsTo (bytes_of (D.disk device).now) contents
         → finite.get contents.objects 7 ≡ None → result ≡ 1 }
 {
-    let (status, _) = run_get(alloc, TWO_BYTES, BRIEF, Ok(device), out, errors);
+    let (status, _) = run_get(alloc, TWO_BYTES, scope, BRIEF, Ok(device), out, errors);
     status
 }
 
 // Whatever a get finds, it leaves the disk as it was, and the device refused no write and no flush.
 fn a_get_writes_nothing_to_the_device<D: SectorDevice + NotesRefusals, W: Write, E: Write>(
     alloc: Global,
+    scope: Scope,
     device: D,
     out: &mut W,
     errors: &mut E,
@@ -67,30 +73,57 @@ fn a_get_writes_nothing_to_the_device<D: SectorDevice + NotesRefusals, W: Write,
     ensures flushes { IfOk result
         (λ after. (D.refused after).flushes ≡ (D.refused device).flushes) }
 {
-    let (_, opened) = run_get(alloc, TWO_BYTES, BRIEF, Ok(device), out, errors);
+    let (_, opened) = run_get(alloc, TWO_BYTES, scope, BRIEF, Ok(device), out, errors);
     opened
 }
 
-// Object 7 is the only one, and the output had no bytes before.
-fn a_list_has_the_number_and_the_length<D: SectorDevice + NotesRefusals + Drop, W: Write, E: Write>(
-    alloc: Global,
-    device: D,
-    out: &mut W,
-    errors: &mut E,
-) -> u8
-    ensures { result ≡ 0 → IsTrue D.keeps_model → (contents : Contents)
-        → MountsTo (bytes_of (D.disk device).now) contents
-        → finite.entries contents.objects ≡ (7, 10 ∷ 11 ∷ []) ∷ []
-        → W.contents out.old ≡ Some [] → W.contents out.new ≡ Some (codes "7 2\n") }
+// The first record of object 7 isn't sound, and none of its log records has the bytes. The output had no bytes before.
+fn a_get_by_path_writes_no_byte_of_a_record_that_is_not_sound<
+    D: SectorDevice + NotesRefusals + Drop,
+    W: Write,
+    E: Write,
+>(alloc: Global, device: D, out: &mut W, errors: &mut E) -> u8
+    ensures { result ≡ 0 → IsTrue D.keeps_model → ((v : ObjectView)
+        → (seen : IsObjectViewOf (bytes_of (D.disk device).now) v) → object_of v ≡ 7
+        → (is_own v 1 ≡ false) × (IsSoundRecord (bytes_of (D.disk device).now)
+        v.frame seen.u.root 7 0 → ⊥))
+        → W.contents out.old ≡ Some [] → W.contents out.new ≡ Some [] }
 {
-    run_list(alloc, "tank.pool", BRIEF, &mut Ok(device), out, errors)
+    let scope = Scope::Path;
+    let (status, _) = run_get(alloc, TWO_BYTES, scope, BRIEF, Ok(device), out, errors);
+    status
 }
 
-fn a_list_writes_nothing_to_the_device<D: SectorDevice + NotesRefusals, W: Write, E: Write>(
+fn a_read_by_path_of_what_the_image_mounts_finds_no_damage<D: SectorDevice>(
     alloc: Global,
     device: D,
-    out: &mut W,
-    errors: &mut E,
+    range: Range,
+) -> (Result<Bytes, PoolError>, D)
+    ensures { IsTrue D.keeps_model → (contents : Contents)
+        → MountsTo (bytes_of (D.disk device).now) contents
+        → IfErr result.0 (λ e. (kind address : ℕ) → e ≢ PoolError.Damaged kind address) }
+{
+    read_object(alloc, Scope::Path, device, ObjectId(7), range)
+}
+
+// Object 7 is the only one.
+fn a_list_has_the_number_and_the_length<D: SectorDevice>(
+    alloc: Global,
+    scope: Scope,
+    device: &mut D,
+) -> Result<Vec<(ObjectId, u64)>, PoolError>
+    ensures { IsTrue D.keeps_model → (contents : Contents)
+        → MountsTo (bytes_of (D.disk device.old).now) contents
+        → finite.entries contents.objects ≡ (7, 10 ∷ 11 ∷ []) ∷ []
+        → IfOk result (λ l. l.items ≡ (record { 0 = 7 }, 2) ∷ []) }
+{
+    list_objects(alloc, scope, device)
+}
+
+fn a_list_writes_nothing_to_the_device<D: SectorDevice + NotesRefusals>(
+    alloc: Global,
+    scope: Scope,
+    device: D,
 ) -> Result<D, FileRefusal>
     ensures there { IsOk result }
     ensures disk { IsTrue D.keeps_model → IfOk result (λ after. D.disk after ≡ D.disk device) }
@@ -99,7 +132,7 @@ fn a_list_writes_nothing_to_the_device<D: SectorDevice + NotesRefusals, W: Write
         (λ after. (D.refused after).flushes ≡ (D.refused device).flushes) }
 {
     let mut opened = Ok(device);
-    run_list(alloc, "tank.pool", BRIEF, &mut opened, out, errors);
+    let _ = list_opened(alloc, scope, &mut opened);
     opened
 }
 

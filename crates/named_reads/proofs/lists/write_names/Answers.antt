@@ -14,8 +14,8 @@ loop-object-preserved g c =
     let i = c.loop-object.object-index in
     let none : ObjectId × ℕ = (record { 0 = 0 }, 0) in
     let same = c.deref-object-items.ensures.value in
-    let there : i < length c.args.list.now.inspected.objects.items = omega (arith, c.loop-object-test.true, ap length same) in
+    let there : i < length c.args.list.now.objects.items = omega (arith, c.loop-object-test.true, ap length same) in
     let object = get_or c.deref-object-items.result.now i none in
-    next_line (line_by table) c.args.list.now.inspected.objects.items i none (g.W.Write.contents c.args.out.now) now after front there written left
+    next_line (line_by table) c.args.list.now.objects.items i none (g.W.Write.contents c.args.out.now) now after front there written left
     (subst (λ (l : List (ObjectId × ℕ)). Appends now after (line_by table (get_or l i none))) same
     (line_written (λ (n : Bor (List ℕ)). n.now) table object.0 object.1 c.name_of-name.result now after c.name_of-name.ensures.name c.name_of-name.ensures.none c.in-Ok.ensures.named c.in-Ok.ensures.unnamed))

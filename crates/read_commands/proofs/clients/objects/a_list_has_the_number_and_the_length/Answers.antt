@@ -1,5 +1,7 @@
-use Rattle.read_commands.proofs.PoolLines.{two_listed}
+use Rattle.std.proofs.lemmas.Result.{IfOk-weaker}
+use Rattle.read_commands.proofs.ScopedReads.{assured, seven_listed}
 use Rattle.read_commands.proofs.clients.objects.a_list_has_the_number_and_the_length.Goals as goal
 
 pub returns : goal.returns
-returns g c = λ zero keeps contents mounts alone empty. two_listed _ _ _ _ keeps contents mounts alone empty (c.run_list.ensures.listed zero)
+returns g c = λ keeps contents mounts alone.
+    IfOk-weaker c.list_objects.result _ _ (λ l are. seven_listed _ l.items are contents mounts alone) (c.list_objects.ensures.mounted (assured c.args.scope _ _ keeps (contents, mounts)))
