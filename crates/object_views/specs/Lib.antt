@@ -1,3 +1,4 @@
 pub mod OwnRecords
 pub mod OwnLaws
 pub mod ObjectViews
+pub mod PoolPaths

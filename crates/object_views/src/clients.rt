@@ -10,6 +10,7 @@ ghost use Rattle.inspections.specs.PoolDamages.{IsOfNoDamage};
 ghost use Rattle.object_paths.specs.ReadPaths.{IsSoundRecord};
 ghost use Rattle.object_views.specs.ObjectViews.{FitsOn, IsObjectViewOf, is_own, object_of};
 
+use crate::paths::find_paths;
 use crate::view::{ObjectView, view_object};
 use base::{Bytes, ObjectId, PoolError, Range};
 use device_model::SectorDevice;
@@ -59,4 +60,21 @@ fn a_record_that_is_not_sound_gives_no_byte<D: SectorDevice>(
         → is_own view.now 0 ≡ false → IfOk result (λ bytes. bytes ≡ []) }
 {
     view.read(device, alloc, Range { low: 0, high: 2 })
+}
+
+// Paths that are found once show an object as it is shown when they are found anew.
+fn paths_show_what_the_image_mounts<D: SectorDevice>(
+    alloc: Global,
+    device: &mut D,
+) -> Result<Bytes, PoolError>
+    ensures bytes { IsTrue D.keeps_model → (contents : Contents)
+        → MountsTo (bytes_of (D.disk device.old).now) contents
+        → finite.get contents.objects 7 ≡ Some (10 ∷ 11 ∷ 12 ∷ 13 ∷ [])
+        → IfOk result (λ bytes. bytes ≡ 11 ∷ 12 ∷ []) }
+    ensures sound { IsTrue D.keeps_model → (contents : Contents)
+        → MountsTo (bytes_of (D.disk device.old).now) contents → IfErr result IsOfNoDamage }
+{
+    let paths = find_paths(alloc, device)?;
+    let view = paths.view(alloc, device, ObjectId(7))?;
+    view.read(device, alloc, Range { low: 1, high: 3 })
 }

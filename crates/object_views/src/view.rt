@@ -20,12 +20,12 @@ ghost use Rattle.inspections.specs.PoolDamages.{IsOfNoDamage};
 ghost use Rattle.object_views.specs.ObjectViews.{FitsOn, IsObjectViewOf, IsStoredEntry, IsViewingRefused, length_of_entry, object_of};
 
 use crate::own_records::OwnObject;
+use crate::paths::{PoolPaths, find_paths};
 use base::{Bytes, OBJECT_COUNT, ObjectId, Pointer, PoolError, RECORD_SIZE, Range};
 use checked_blocks::Frame;
 use device_model::SectorDevice;
 use extents::Extents;
-use import_replay::{find_pool, frame_of, read_chain};
-use labels::Geometry;
+use import_replay::frame_of;
 use object_paths::{PathBlocks, StoredObject};
 use std::alloc::Global;
 use std::fmt;
@@ -71,22 +71,65 @@ pub fn view_object<D: SectorDevice>(
     ensures sound { IsTrue D.keeps_model → (contents : Contents)
         → MountsTo (bytes_of (D.disk device.old).now) contents → IfErr result IsOfNoDamage }
 {
-    let geometry = Geometry::of(device.sectors())?;
-    let found = find_pool(alloc, device, geometry)?;
-    let frame = frame_of(&found.uberblock, geometry);
-    let stored = find_stored(device, &frame, found.uberblock.root, object)?;
-    let logged = read_chain(alloc, device, geometry, &found)?;
-    let own = OwnObject {
-        id: object,
-        size: length_of(&stored),
-    };
-    let changes = own.replay(alloc, found.uberblock.group, &logged)?;
-    Ok(ObjectView {
-        frame,
-        object,
-        stored,
-        changes,
-    })
+    let paths = find_paths(alloc, device)?;
+    paths.view(alloc, device, object)
+}
+
+impl PoolPaths {
+    ghost use Rattle.std.specs.Prelude.{◌≡◌, IfErr, IfOk, IsTrue};
+    ghost use Rattle.base.specs.disk.Disk.{bytes_of};
+    ghost use Rattle.base.specs.history.Contents.{Contents};
+    ghost use Rattle.base.specs.tree.Mount.{MountsTo};
+    ghost use Rattle.device_model.specs.Reading.{OnlyReads};
+    ghost use Rattle.inspections.specs.PoolDamages.{IsOfNoDamage};
+    ghost use Rattle.object_views.specs.ObjectViews.{FitsOn, IsObjectViewOf, TellsOwnDamage, object_of};
+    ghost use Rattle.object_views.specs.PoolPaths.{AreFoundOn, ArePathsOf, IsPathsRefusal};
+
+    /// Returns one object of the pool, as an import would mount it, to read it: what `view_object` returns, without a
+    /// second read of the labels and the log chain. The device is the one that the paths were found on, and its labels
+    /// and its log chain are as they were. It makes no write and no flush, also if it is refused.
+    ///
+    /// # Errors
+    /// `Damaged` with the root or the object's directory, or with kind 6 and the address of the first block of the
+    /// first log record whose operation on the object can't take place. `NoMemory` and `Read` when they happen.
+    pub fn view<D: SectorDevice>(
+        &self,
+        alloc: Global,
+        device: &mut D,
+        object: ObjectId,
+    ) -> Result<ObjectView, PoolError>
+        requires fits { AreFoundOn (D.size device.old) self.now }
+        ensures reads { OnlyReads D.SectorDevice result device.old device.new }
+
+        // It has what the image of these paths says of this object.
+        ensures object { IfOk result (λ v. object_of v ≡ object.0) }
+        ensures seen { IsTrue D.keeps_model
+            → ArePathsOf (bytes_of (D.disk device.old).now) self.now
+            → IfOk result (IsObjectViewOf (bytes_of (D.disk device.old).now)) }
+        ensures fits { IfOk result (FitsOn (D.size device.old)) }
+        ensures refused { IfErr result (IsPathsRefusal D.SectorDevice self.now device.old
+            (λ image. TellsOwnDamage image object.0)) }
+
+        // If that image mounts, no damage is found.
+        ensures sound { IsTrue D.keeps_model
+            → ArePathsOf (bytes_of (D.disk device.old).now) self.now → (contents : Contents)
+            → MountsTo (bytes_of (D.disk device.old).now) contents → IfErr result IsOfNoDamage }
+    {
+        let uberblock = &self.found.uberblock;
+        let frame = frame_of(uberblock, self.geometry);
+        let stored = find_stored(device, &frame, uberblock.root, object)?;
+        let own = OwnObject {
+            id: object,
+            size: length_of(&stored),
+        };
+        let changes = own.replay(alloc, uberblock.group, &self.logged)?;
+        Ok(ObjectView {
+            frame,
+            object,
+            stored,
+            changes,
+        })
+    }
 }
 
 // The length that an entry gives, if there is one.
