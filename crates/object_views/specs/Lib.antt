@@ -2,3 +2,4 @@ pub mod OwnRecords
 pub mod OwnLaws
 pub mod ObjectViews
 pub mod PoolPaths
+pub mod Listings

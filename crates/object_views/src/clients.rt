@@ -1,15 +1,22 @@
 //! What callers rest on: one function for each promise of this crate's calls, proved from the contract of the call
 //! alone. So it is refused as soon as that contract says less.
 
-ghost use Rattle.std.specs.Prelude.{◌≡◌, ◌∷◌, [], Some, false, IfErr, IfOk, IsTrue};
+ghost use Rattle.std.specs.Prelude.{◌≡◌, ◌≢◌, ◌∷◌, [], ℕ, List, Some, false, IfErr, IfOk, IsTrue};
 ghost use Rattle.std.specs.FinMap as finite;
+ghost use Rattle.base.specs.declared.error.PoolError.TheVariants.{Damaged};
 ghost use Rattle.base.specs.disk.Disk.{bytes_of};
+ghost use Rattle.base.specs.formats.Uberblocks.{Uberblock};
 ghost use Rattle.base.specs.history.Contents.{Contents};
-ghost use Rattle.base.specs.tree.Mount.{MountsTo};
+ghost use Rattle.base.specs.tree.Damages.{IsSoundAt};
+ghost use Rattle.base.specs.tree.Mount.{HasPool, IsMounted, Mount, MountsTo, frame_of};
+ghost use Rattle.base.specs.tree.Places.{pointer_of};
+ghost use Rattle.base.specs.tree.Places.Place.{Directory, Root};
+ghost use Rattle.tree_blocks.specs.ListedObjects.{listed};
 ghost use Rattle.inspections.specs.PoolDamages.{IsOfNoDamage};
 ghost use Rattle.object_paths.specs.ReadPaths.{IsSoundRecord};
 ghost use Rattle.object_views.specs.ObjectViews.{FitsOn, IsObjectViewOf, is_own, object_of};
 
+use crate::listing::{ListedPool, list_pool};
 use crate::paths::find_paths;
 use crate::view::{ObjectView, view_object};
 use base::{Bytes, ObjectId, PoolError, Range};
@@ -77,4 +84,46 @@ fn paths_show_what_the_image_mounts<D: SectorDevice>(
     let paths = find_paths(alloc, device)?;
     let view = paths.view(alloc, device, ObjectId(7))?;
     view.read(device, alloc, Range { low: 1, high: 3 })
+}
+
+// A list has the objects of what the image mounts, each with its length.
+fn a_list_has_the_lengths_of_what_the_image_mounts<D: SectorDevice>(
+    alloc: Global,
+    device: &mut D,
+) -> Result<ListedPool, PoolError>
+    ensures { IsTrue D.keeps_model → (m : Mount)
+        → IsMounted (bytes_of (D.disk device.old).now) m
+        → listed m.contents.objects ≡ (record { 0 = 7 }, 4) ∷ []
+        → IfOk result (λ l. l.objects.items ≡ (record { 0 = 7 }, 4) ∷ []) }
+{
+    list_pool(alloc, device)
+}
+
+// Whatever the image is, no damage of a data block is told, which has kind 5.
+fn a_list_sees_no_damage_of_a_data_block<D: SectorDevice>(
+    alloc: Global,
+    device: &mut D,
+) -> Result<ListedPool, PoolError>
+    ensures { IsTrue D.keeps_model → IfErr result (λ e. (address : ℕ) → e ≢ Damaged 5 address) }
+{
+    list_pool(alloc, device)
+}
+
+// A directory that isn't sound ends a list. The first directory is told as kind 3, with the address in the root.
+fn a_list_tells_the_first_bad_directory<D: SectorDevice>(
+    alloc: Global,
+    device: &mut D,
+) -> Result<ListedPool, PoolError>
+    ensures no_list { IsTrue D.keeps_model → (u : Uberblock) (name : List ℕ)
+        → HasPool (bytes_of (D.disk device.old).now) u name
+        → (IsSoundAt (bytes_of (D.disk device.old).now) (frame_of (bytes_of (D.disk device.old).now) u) u.root (Directory 0) → ⊥)
+        → IfOk result (λ _. ⊥) }
+    ensures told { IsTrue D.keeps_model → (u : Uberblock) (name : List ℕ)
+        → HasPool (bytes_of (D.disk device.old).now) u name
+        → IsSoundAt (bytes_of (D.disk device.old).now) (frame_of (bytes_of (D.disk device.old).now) u) u.root Root
+        → (IsSoundAt (bytes_of (D.disk device.old).now) (frame_of (bytes_of (D.disk device.old).now) u) u.root (Directory 0) → ⊥)
+        → IfErr result (λ e. (kind address : ℕ) → e ≡ Damaged kind address
+        → (kind ≡ 3) × ((pointer_of (bytes_of (D.disk device.old).now) u.root (Directory 0)).address ≡ address)) }
+{
+    list_pool(alloc, device)
 }
