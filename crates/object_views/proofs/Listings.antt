@@ -108,6 +108,12 @@ pub has_entries : (image : List ℕ) (u : Uberblock) (frame : Frame) (entries : 
     → AreRising 0 entries object_count → HasEntries image u entries
 has_entries image u frame entries framed above each rising = record { above = subst (λ (f : Frame). AreSoundAbove image f u.root) framed above; each = each; rising = rising }
 
+-- and that it is all of each tree, in the frame of the image
+pub exact_on : (image : List ℕ) (u : Uberblock) (frame : Frame) (entries : List (ObjectId × ℕ)) → frame ≡ frame_of image u
+    → ((objects : FinMap nat_cmp (List ℕ)) → IsTree image frame u.root objects → entries ≡ listed objects)
+    → (objects : FinMap nat_cmp (List ℕ)) → IsTree image (frame_of image u) u.root objects → entries ≡ listed objects
+exact_on image u frame entries framed exact objects tree = exact objects (subst (λ (f : Frame). IsTree image f u.root objects) (sym framed) tree)
+
 -- where an image mounts, neither the root nor a directory is refused
 pub no_first_above : (image : List ℕ) (p : PoolPaths) → ArePathsOf image p → (contents : Contents) → MountsTo image contents → (e : PoolError)
     → TellsFirstAbove image (frame_of image (uberblock_of p)) (uberblock_of p).root e → IsOfNoDamage e

@@ -114,16 +114,15 @@ fn a_list_tells_the_first_bad_directory<D: SectorDevice>(
     alloc: Global,
     device: &mut D,
 ) -> Result<ListedPool, PoolError>
-    ensures no_list { IsTrue D.keeps_model → (u : Uberblock) (name : List ℕ)
-        → HasPool (bytes_of (D.disk device.old).now) u name
-        → (IsSoundAt (bytes_of (D.disk device.old).now) (frame_of (bytes_of (D.disk device.old).now) u) u.root (Directory 0) → ⊥)
-        → IfOk result (λ _. ⊥) }
-    ensures told { IsTrue D.keeps_model → (u : Uberblock) (name : List ℕ)
-        → HasPool (bytes_of (D.disk device.old).now) u name
-        → IsSoundAt (bytes_of (D.disk device.old).now) (frame_of (bytes_of (D.disk device.old).now) u) u.root Root
-        → (IsSoundAt (bytes_of (D.disk device.old).now) (frame_of (bytes_of (D.disk device.old).now) u) u.root (Directory 0) → ⊥)
+    ensures no_list { IsTrue D.keeps_model → (image : List ℕ) (u : Uberblock) (name : List ℕ)
+        → bytes_of (D.disk device.old).now ≡ image → HasPool image u name
+        → (IsSoundAt image (frame_of image u) u.root (Directory 0) → ⊥) → IfOk result (λ _. ⊥) }
+    ensures told { IsTrue D.keeps_model → (image : List ℕ) (u : Uberblock) (name : List ℕ)
+        → bytes_of (D.disk device.old).now ≡ image → HasPool image u name
+        → IsSoundAt image (frame_of image u) u.root Root
+        → (IsSoundAt image (frame_of image u) u.root (Directory 0) → ⊥)
         → IfErr result (λ e. (kind address : ℕ) → e ≡ Damaged kind address
-        → (kind ≡ 3) × ((pointer_of (bytes_of (D.disk device.old).now) u.root (Directory 0)).address ≡ address)) }
+        → (kind ≡ 3) × ((pointer_of image u.root (Directory 0)).address ≡ address)) }
 {
     list_pool(alloc, device)
 }

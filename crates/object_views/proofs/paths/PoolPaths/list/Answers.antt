@@ -1,19 +1,14 @@
-use Rattle.std.proofs.Common.{◌≡◌, ◌∙◌, ℕ, List, subst, sym}
-use Rattle.std.specs.Ordering.{nat_cmp}
-use Rattle.std.specs.FinMap.{FinMap}
+use Rattle.std.proofs.Common.{◌∙◌, ℕ, List, subst, sym}
 use Rattle.std.proofs.lemmas.Result.{IfErr-weaker, IfOk-weaker}
 use Rattle.base.specs.declared.names.ObjectId.{ObjectId}
 use Rattle.base.specs.disk.Disk.{bytes_of}
 use Rattle.base.specs.formats.Blocks.{Frame}
-use Rattle.base.specs.tree.Mount.{frame_of}
-use Rattle.base.specs.tree.Tree.{IsTree}
 use Rattle.trees.specs.EntryLists.{TellsFirstAbove}
-use Rattle.tree_blocks.specs.ListedObjects.{listed}
 use Rattle.import_replay.proofs.Reasons.{passed_on}
 use Rattle.object_views.specs.Listings.{IsRefusedOn, IsReplayedOn}
 use Rattle.object_views.specs.PoolPaths.{uberblock_of}
 use Rattle.object_views.proofs.FoundViews.{fits_on, framed_on}
-use Rattle.object_views.proofs.Listings.{has_entries, is_listing, list_refused_above, list_refused_on, lists_mount, no_first_above, no_record_refused}
+use Rattle.object_views.proofs.Listings.{exact_on, has_entries, is_listing, list_refused_above, list_refused_on, lists_mount, no_first_above, no_record_refused}
 use Rattle.object_views.proofs.paths.PoolPaths.list.Goals as goal
 
 pub list_entries-requires : goal.list_entries-requires
@@ -56,8 +51,7 @@ returns-clause-mounted g c = λ keeps paths m mounted.
     let image : List ℕ = bytes_of (g.D.SectorDevice.disk c.args.device.now).now in
     let long = g.met.D.SectorDevice.sized keeps c.args.device.now in
     let framed = framed_on image _ p c.frame_of-frame.result c.requires.fits long c.frame_of-frame.ensures in
-    let exact : (objects : FinMap nat_cmp (List ℕ)) → IsTree image (frame_of image (uberblock_of p)) (uberblock_of p).root objects → entries ≡ listed objects =
-    λ objects tree. c.in_ok-entries.ensures.exact keeps objects (subst (λ (f : Frame). IsTree image f (uberblock_of p).root objects) (sym framed) tree) in
+    let exact = exact_on image (uberblock_of p) c.frame_of-frame.result entries framed (c.in_ok-entries.ensures.exact keeps) in
     IfOk-weaker c.replay_on.result _ _ (λ l replayed. lists_mount image p paths entries exact l (subst (λ (es : List (ObjectId × ℕ)). IsReplayedOn p es l) c.deref.ensures.value replayed) (long ∙ sym c.requires.fits.size_is) m mounted)
     c.replay_on.ensures.replayed
 
@@ -81,6 +75,5 @@ returns-clause-sound g c = λ keeps paths contents mounts.
     let entries = c.in_ok-entries.entries.items in
     let image : List ℕ = bytes_of (g.D.SectorDevice.disk c.args.device.now).now in
     let framed = framed_on image _ p c.frame_of-frame.result c.requires.fits (g.met.D.SectorDevice.sized keeps c.args.device.now) c.frame_of-frame.ensures in
-    let exact : (objects : FinMap nat_cmp (List ℕ)) → IsTree image (frame_of image (uberblock_of p)) (uberblock_of p).root objects → entries ≡ listed objects =
-    λ objects tree. c.in_ok-entries.ensures.exact keeps objects (subst (λ (f : Frame). IsTree image f (uberblock_of p).root objects) (sym framed) tree) in
+    let exact = exact_on image (uberblock_of p) c.frame_of-frame.result entries framed (c.in_ok-entries.ensures.exact keeps) in
     IfErr-weaker c.replay_on.result _ _ (λ e refused. no_record_refused image p paths entries exact contents mounts e (subst (λ (es : List (ObjectId × ℕ)). IsRefusedOn p es e) c.deref.ensures.value refused)) c.replay_on.ensures.refused
