@@ -165,16 +165,21 @@ module _ (image : List ℕ) (p : PoolPaths) (paths : ArePathsOf image p) (entrie
         let m = mine image u p.found.name paths.pool contents mounts in
         subst (λ (c : List LogPiece). apply_records (records_above u.group c) m.synced ≡ Ok contents) (same_chain image u p.found.name paths.pool contents mounts p.logged.items paths.chain_is) m.applied
 
+    pub lists_contents : (l : ListedPool) → IsReplayedOn p entries l → (contents : Contents) → MountsTo image contents → ListsContents l contents
+    lists_contents l replayed contents mounts =
+        let (now, reaches, told) = replayed.replayed (mine image u p.found.name paths.pool contents mounts).synced (of_mount contents mounts) in
+        let is : now ≡ contents = (let both : Ok now ≡ Ok contents = sym reaches ∙ applied contents mounts in cc) in
+        record { name_is = told.name_is ∙ ap (λ (c : Contents). c.name) is; objects_are = told.objects_are ∙ ap (λ (c : Contents). listed c.objects) is }
+
     pub lists_mount : (l : ListedPool) → IsReplayedOn p entries l → length image ≡ p.geometry → (m : Mount) → IsMounted image m → IsListingOfMount m l
     lists_mount l replayed long m mounted =
         let mounts : MountsTo image m.contents = (mounted.u, mounted.chain, mounted.mounts) in
-        let (now, reaches, told) = replayed.replayed (mine image u p.found.name paths.pool m.contents mounts).synced (of_mount m.contents mounts) in
-        let is : now ≡ m.contents = (let both : Ok now ≡ Ok m.contents = sym reaches ∙ applied m.contents mounts in cc) in
+        let told = lists_contents l replayed m.contents mounts in
         let same : u ≡ mounted.u = one-active image u mounted.u paths.pool.active mounted.mounts.found.pool.active in
         let chains : p.logged.items ≡ mounted.chain = sym (same_chain image u p.found.name paths.pool m.contents mounts p.logged.items paths.chain_is) in
         record {
-          name_is = told.name_is ∙ ap (λ (c : Contents). c.name) is;
-          objects_are = told.objects_are ∙ ap (λ (c : Contents). listed c.objects) is;
+          name_is = told.name_is;
+          objects_are = told.objects_are;
           guid = replayed.guid ∙ ap (λ (v : Uberblock). v.guid) same ∙ mounted.guid;
           group = replayed.group ∙ ap (λ (v : Uberblock). v.group) same ∙ mounted.group;
           import_number = replayed.import_number ∙ ap (λ (v : Uberblock). v.import_number) same ∙ mounted.import_number;

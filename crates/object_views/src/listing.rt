@@ -12,7 +12,7 @@ ghost use Rattle.device_model.specs.Reading.{OnlyReads};
 ghost use Rattle.tree_blocks.specs.Lengths.{lengths_of};
 ghost use Rattle.trees.specs.EntryLists.{AreRising};
 ghost use Rattle.inspections.specs.PoolDamages.{IsOfNoDamage};
-ghost use Rattle.object_views.specs.Listings.{HasListedLengths, IsListingOf, IsListingOfMount, IsListingRefused};
+ghost use Rattle.object_views.specs.Listings.{HasListedLengths, IsListingOf, IsListingOfMount, IsListingRefused, ListsContents};
 
 use crate::paths::{PoolPaths, find_paths};
 use base::{Group, ObjectId, POINTER_COUNT, Pointer, PoolError, PoolName};
@@ -59,6 +59,9 @@ pub fn list_pool<D: SectorDevice>(alloc: Global, device: &mut D) -> Result<Liste
         → IfOk result (IsListingOf (bytes_of (D.disk device.old).now)) }
     ensures mounted { IsTrue D.keeps_model → (m : Mount)
         → IsMounted (bytes_of (D.disk device.old).now) m → IfOk result (IsListingOfMount m) }
+    ensures exact { IsTrue D.keeps_model → (contents : Contents)
+        → MountsTo (bytes_of (D.disk device.old).now) contents
+        → IfOk result (λ l. ListsContents l contents) }
     ensures form { IfOk result (λ l. AreRising 0 l.objects.items object_count) }
 
     ensures refused { IfErr result
@@ -82,7 +85,7 @@ impl PoolPaths {
     ghost use Rattle.log_replay.specs.Replays.{IsChainAllowed};
     ghost use Rattle.trees.specs.EntryLists.{AreRising};
     ghost use Rattle.inspections.specs.PoolDamages.{IsOfNoDamage};
-    ghost use Rattle.object_views.specs.Listings.{IsListingOf, IsListingOfMount, IsRefusedOn, IsReplayedOn, TellsListingDamage};
+    ghost use Rattle.object_views.specs.Listings.{IsListingOf, IsListingOfMount, IsRefusedOn, IsReplayedOn, ListsContents, TellsListingDamage};
     ghost use Rattle.object_views.specs.PoolPaths.{AreFoundOn, ArePathsOf, IsPathsRefusal};
 
     /// Lists the objects of the pool with their lengths, as an import would mount them: what `list_pool` returns, without
@@ -107,6 +110,10 @@ impl PoolPaths {
         ensures mounted { IsTrue D.keeps_model
             → ArePathsOf (bytes_of (D.disk device.old).now) self.now → (m : Mount)
             → IsMounted (bytes_of (D.disk device.old).now) m → IfOk result (IsListingOfMount m) }
+        ensures exact { IsTrue D.keeps_model
+            → ArePathsOf (bytes_of (D.disk device.old).now) self.now → (contents : Contents)
+            → MountsTo (bytes_of (D.disk device.old).now) contents
+            → IfOk result (λ l. ListsContents l contents) }
         ensures form { IfOk result (λ l. AreRising 0 l.objects.items object_count) }
 
         ensures refused { IfErr result

@@ -41,4 +41,4 @@ module _ {Dev : Type 0} (D : Ghosts Dev) (opened : Result Dev FileRefusal) (old 
 
 -- what is so of a device is so of what was opened as it
 pub of_opened : {Dev : Type 0} (opened : Result Dev FileRefusal) (old : Dev) → opened ≡ Ok old → (P : Dev → Type 0) → P old → IfOk opened P
-of_opened opened old is P holds = subst (λ (o : Result Dev FileRefusal). IfOk o P) (sym is) holds
+of_opened {Dev = Dev} opened old is P holds = subst (λ (o : Result Dev FileRefusal). IfOk o P) (sym is) holds

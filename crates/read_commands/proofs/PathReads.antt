@@ -40,9 +40,12 @@ unseen_if v range e is (inr (inr (inr (inl read)))) = absurd (let no : NoObject 
 unseen_if v range e is (inr (inr (inr (inr (kind, address, damaged))))) = absurd (let no : NoObject ≡ Damaged kind address = sym is ∙ damaged in cc)
 
 -- a range that is refused as one of a missing object could be read
-readable_if : (readable : Bool) (e : PoolError) → e ≡ NoObject → (readable ≡ false → Err {T = List ℕ} e ≡ Err BadRange) → readable ≡ true
-readable_if true e is outside = refl
-readable_if false e is outside = let bad = outside refl in absurd (let no : NoObject ≡ BadRange = sym is ∙ cc in cc)
+readable_if : (readable : Bool) (read : Result (List ℕ) PoolError) (e : PoolError) → read ≡ Err e → e ≡ NoObject → (readable ≡ false → read ≡ Err BadRange) → readable ≡ true
+readable_if true read e same is outside = refl
+readable_if false read e same is outside =
+    let both : Err e ≡ Err BadRange = sym same ∙ outside refl in
+    let bad : e ≡ BadRange = cc in
+    absurd (let other : NoObject ≡ BadRange = sym is ∙ bad in cc)
 
 -- a view of an image
 module _ (image : List ℕ) (v : ObjectView) (seen : IsObjectViewOf image v) (range : Range) where
@@ -72,7 +75,7 @@ module _ (image : List ℕ) (v : ObjectView) (seen : IsObjectViewOf image v) (ra
     path_absent (Err e) outside refused = λ none. (
       contents,
       mounts,
-      sym (mounted_length image v seen contents mounts (number_low (readable_if (is_readable (object_of v) range) e none outside))) ∙ unseen_if v range e none refused,
+      sym (mounted_length image v seen contents mounts (number_low (readable_if (is_readable (object_of v) range) (Err e) e refl none outside))) ∙ unseen_if v range e none refused,
     )
 
 -- a view was refused
@@ -100,9 +103,9 @@ pub no_unsound_byte : (image bytes : List ℕ) → IsCheckedRange image 7 (recor
     → ((v : ObjectView) (seen : IsObjectViewOf image v) → object_of v ≡ 7 → (is_own v 1 ≡ false) × (IsSoundRecord image v.frame seen.u.root 7 0 → ⊥)) → bytes ≡ []
 no_unsound_byte image [] checked unsound = refl
 no_unsound_byte image (byte ∷ bytes) (v, seen, is, read) unsound =
-    let (other, no) = unsound v seen is in
+    let (other, not_sound) = unsound v seen is in
     let some : 0 < length (byte ∷ bytes) = omega arith in
     elim (read.checked 0 some) [
       | inl own ↦ absurd (false≢true (sym other ∙ own))
-      | inr sound ↦ absurd (no (subst (λ (n : ℕ). IsSoundRecord image v.frame seen.u.root n 0) is sound))
+      | inr sound ↦ absurd (not_sound (subst (λ (n : ℕ). IsSoundRecord image v.frame seen.u.root n 0) is sound))
     ]

@@ -16,7 +16,7 @@ use Rattle.device_model.specs.declared.device.SectorDevice.{Ghosts}
 use Rattle.file_devices.specs.declared.held_file.FileRefusal.{FileRefusal}
 use Rattle.inspections.specs.Inspections.{IsInspectionOf}
 use Rattle.inspections.specs.declared.inspection.Inspected.{Inspected}
-use Rattle.object_views.specs.Listings.{IsListingOf, IsListingOfMount}
+use Rattle.object_views.specs.Listings.{ListsContents}
 use Rattle.object_views.specs.declared.listing.ListedPool.{ListedPool}
 use Rattle.tree_blocks.specs.ListedObjects.{listed}
 use Rattle.read_commands.specs.Checks.{MountsWhole}
@@ -72,6 +72,10 @@ as_mounted scope keeps image object range before after kept whole w = (w.bytes, 
 -- the objects of an inspection are those of what the image mounts
 pub inspected_objects : (image : List ℕ) (i : Inspected) → IsInspectionOf image i → AreMountedObjects image i.objects.items
 inspected_objects image i (contents, told, is) = (contents, (is.u, is.chain, is.mounts), told.objects_are)
+
+-- and so are those that are listed by path
+pub listed_objects : (image : List ℕ) (l : ListedPool) (contents : Contents) → MountsTo image contents → ListsContents l contents → AreMountedObjects image l.objects.items
+listed_objects image l contents mounts lists = (contents, mounts, lists.objects_are)
 
 -- an image mounts one contents, so all its objects are those of any that it mounts
 pub objects_of : (image : List ℕ) (objects : List (ObjectId × ℕ)) → AreMountedObjects image objects → (contents : Contents) → MountsTo image contents → objects ≡ listed contents.objects

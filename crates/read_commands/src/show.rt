@@ -95,8 +95,8 @@ fn read_listing<D: SectorDevice + NotesRefusals>(
     ensures unusable { IfErr opened.old (λ cause. result ≡ Err (Failure.Unusable cause)) }
     ensures listed { IfOk opened.old (λ device. IsTrue D.keeps_model
         → IfOk result (IsListingOf (bytes_of (D.disk device).now))) }
-    ensures mounted { IfOk opened.old (λ device. IsTrue D.keeps_model → (m : Mount)
-        → IsMounted (bytes_of (D.disk device).now) m → IfOk result (IsListingOfMount m)) }
+    ensures mounted { IfOk opened.old (λ device. IsTrue D.keeps_model → IfOk result
+        (λ l. (m : Mount) → IsMounted (bytes_of (D.disk device).now) m → IsListingOfMount m l)) }
     ensures failed { IfErr result
         (IsLookFailure (IsListingRefused D.SectorDevice) opened.old opened.new) }
 {

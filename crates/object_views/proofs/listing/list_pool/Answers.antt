@@ -36,6 +36,12 @@ returns-clause-mounted g c = λ keeps m mounted.
     c.list.ensures.mounted keeps (subst (λ (d : Disk). ArePathsOf (bytes_of d.now) c.in_ok-paths.paths) (sym same) (c.in_ok-paths.ensures.paths keeps))
     m (subst (λ (d : Disk). IsMounted (bytes_of d.now) m) (sym same) mounted)
 
+pub returns-clause-exact : goal.returns-clause-exact
+returns-clause-exact g c = λ keeps contents mounts.
+    let same = c.in_ok-paths.ensures.reads.disk keeps in
+    c.list.ensures.exact keeps (subst (λ (d : Disk). ArePathsOf (bytes_of d.now) c.in_ok-paths.paths) (sym same) (c.in_ok-paths.ensures.paths keeps))
+    contents (subst (λ (d : Disk). MountsTo (bytes_of d.now) contents) (sym same) mounts)
+
 pub returns-clause-sound : goal.returns-clause-sound
 returns-clause-sound g c = λ keeps contents mounts.
     let same = c.in_ok-paths.ensures.reads.disk keeps in

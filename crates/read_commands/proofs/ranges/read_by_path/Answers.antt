@@ -1,6 +1,7 @@
 use Rattle.std.proofs.Common.{◌≡◌, ℕ, List, subst, sym}
 use Rattle.std.specs.Prelude.{IfErr, IfOk}
 use Rattle.std.proofs.lemmas.Result.{err_from_is_err_and}
+use Rattle.base.specs.declared.error.PoolError.TheVariants.{NoObject}
 use Rattle.base.specs.disk.Disk.{Disk, bytes_of}
 use Rattle.base.specs.history.Contents.{Contents}
 use Rattle.base.specs.tree.Mount.{MountsTo}
@@ -28,7 +29,7 @@ pub returns-clause-absent : goal.returns-clause-absent
 returns-clause-absent g c = λ keeps whole.
     let D = g.D.SectorDevice in
     let image : List ℕ = bytes_of (D.disk c.args.device.now).now in
-    subst (λ (n : ℕ). IfErr c.read.result (λ e. e ≡ goal.NoObject → IsAbsentIn image n)) c.in_ok-view.ensures.object
+    subst (λ (n : ℕ). IfErr c.read.result (λ e. e ≡ NoObject → IsAbsentIn image n)) c.in_ok-view.ensures.object
     (path_absent image c.in_ok-view.view (c.in_ok-view.ensures.seen keeps) c.args.range whole.0 whole.1 c.read.result c.read.ensures.outside c.read.ensures.refused)
 
 pub returns-clause-checked : goal.returns-clause-checked
@@ -53,7 +54,7 @@ returns-clause-refused g c =
     (λ keeps. subst (λ (d : Disk). (is : IsObjectViewOf (bytes_of d.now) v) → IfErr c.read.result (TellsBetween (bytes_of d.now) is.u.root v c.args.range.low c.args.range.high)) (c.view_object.ensures.reads.disk keeps)
     (c.read.ensures.damage keeps))
 
-pub returns-in_err-view_object-clause-refused : goal.returns-in_err-view_object-clause-refused
-returns-in_err-view_object-clause-refused g c =
+pub returns-in_err-view-clause-refused : goal.returns-in_err-view-clause-refused
+returns-in_err-view-clause-refused g c =
     let p = err_from_is_err_and c.from_residual.result c.from_residual.ensures.1 in
-    rw (p.1, p.2) (viewing_refused g.D.SectorDevice c.args.object.0 c.args.range c.args.device.now _ c.in_err-view_object.field-0.0 c.in_err-view_object.ensures.refused)
+    rw (p.1, p.2) (viewing_refused g.D.SectorDevice c.args.object.0 c.args.range c.args.device.now _ c.in_err-view.field-0.0 c.in_err-view.ensures.refused)

@@ -8,7 +8,7 @@ use Rattle.import_replay.proofs.Reasons.{passed_on}
 use Rattle.object_views.specs.Listings.{IsRefusedOn, IsReplayedOn}
 use Rattle.object_views.specs.PoolPaths.{uberblock_of}
 use Rattle.object_views.proofs.FoundViews.{fits_on, framed_on}
-use Rattle.object_views.proofs.Listings.{exact_on, has_entries, is_listing, list_refused_above, list_refused_on, lists_mount, no_first_above, no_record_refused}
+use Rattle.object_views.proofs.Listings.{exact_on, has_entries, is_listing, list_refused_above, list_refused_on, lists_contents, lists_mount, no_first_above, no_record_refused}
 use Rattle.object_views.proofs.paths.PoolPaths.list.Goals as goal
 
 pub list_entries-requires : goal.list_entries-requires
@@ -53,6 +53,16 @@ returns-clause-mounted g c = λ keeps paths m mounted.
     let framed = framed_on image _ p c.frame_of-frame.result c.requires.fits long c.frame_of-frame.ensures in
     let exact = exact_on image (uberblock_of p) c.frame_of-frame.result entries framed (c.in_ok-entries.ensures.exact keeps) in
     IfOk-weaker c.replay_on.result _ _ (λ l replayed. lists_mount image p paths entries exact l (subst (λ (es : List (ObjectId × ℕ)). IsReplayedOn p es l) c.deref.ensures.value replayed) (long ∙ sym c.requires.fits.size_is) m mounted)
+    c.replay_on.ensures.replayed
+
+pub returns-clause-exact : goal.returns-clause-exact
+returns-clause-exact g c = λ keeps paths contents mounts.
+    let p = c.args.self.now in
+    let entries = c.in_ok-entries.entries.items in
+    let image : List ℕ = bytes_of (g.D.SectorDevice.disk c.args.device.now).now in
+    let framed = framed_on image _ p c.frame_of-frame.result c.requires.fits (g.met.D.SectorDevice.sized keeps c.args.device.now) c.frame_of-frame.ensures in
+    let exact = exact_on image (uberblock_of p) c.frame_of-frame.result entries framed (c.in_ok-entries.ensures.exact keeps) in
+    IfOk-weaker c.replay_on.result _ _ (λ l replayed. lists_contents image p paths entries exact l (subst (λ (es : List (ObjectId × ℕ)). IsReplayedOn p es l) c.deref.ensures.value replayed) contents mounts)
     c.replay_on.ensures.replayed
 
 pub returns-clause-form : goal.returns-clause-form

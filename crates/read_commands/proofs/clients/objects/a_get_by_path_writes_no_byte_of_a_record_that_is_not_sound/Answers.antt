@@ -1,4 +1,4 @@
-use Rattle.std.proofs.Common.{List, Option, ap, subst, ◌∙◌, ℕ}
+use Rattle.std.proofs.Common.{List, Option, ap, refl, subst, ◌∙◌, ℕ}
 use Rattle.std.specs.Io.KnownBytes.{Appends}
 use Rattle.std.specs.Prelude.{Some}
 use Rattle.base.specs.disk.Disk.{bytes_of}
