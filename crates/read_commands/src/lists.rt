@@ -4,7 +4,9 @@
 ghost use Rattle.std.specs.Prelude.{◌≡◌, Err, IfErr, IfOk, IsTrue};
 ghost use Rattle.base.specs.disk.Disk.{bytes_of};
 ghost use Rattle.device_model.specs.Reading.{OnlyReads};
-ghost use Rattle.read_commands.specs.Checks.{StaysOpened};
+ghost use Rattle.inspections.specs.Refused.{IsInspectionRefused};
+ghost use Rattle.object_views.specs.Listings.{IsListingRefused};
+ghost use Rattle.read_commands.specs.Checks.{MountsWhole, StaysOpened};
 ghost use Rattle.read_commands.specs.ReadScopes.{AreCheckedObjects, AreMountedObjects};
 ghost use Rattle.read_commands.specs.Scopes.{IsAssured};
 ghost use Rattle.read_commands.specs.Undone.{IsListRefused, IsLookFailure};
@@ -71,7 +73,37 @@ pub fn list_objects<D: SectorDevice>(
         (IsListRefused D.SectorDevice scope device.old device.new) }
 {
     match scope {
-        Scope::Path => Ok(list_pool(alloc, device)?.objects),
-        Scope::Whole => Ok(inspect(alloc, device)?.objects),
+        Scope::Path => list_by_path(alloc, device),
+        Scope::Whole => list_whole(alloc, device),
     }
+}
+
+// The objects by the root, the directories and the log.
+fn list_by_path<D: SectorDevice>(
+    alloc: Global,
+    device: &mut D,
+) -> Result<Vec<(ObjectId, u64)>, PoolError>
+    ensures reads { OnlyReads D.SectorDevice result device.old device.new }
+    ensures mounted { IsTrue D.keeps_model → MountsWhole (bytes_of (D.disk device.old).now)
+        → IfOk result (λ l. AreMountedObjects (bytes_of (D.disk device.old).now) l.items) }
+    ensures checked { IsTrue D.keeps_model → IfOk result
+        (λ l. AreCheckedObjects (bytes_of (D.disk device.old).now) l.items) }
+    ensures refused { IfErr result (IsListingRefused D.SectorDevice device.old device.new) }
+{
+    let listed = list_pool(alloc, device)?;
+    Ok(listed.objects)
+}
+
+// The same once the whole pool was read.
+fn list_whole<D: SectorDevice>(
+    alloc: Global,
+    device: &mut D,
+) -> Result<Vec<(ObjectId, u64)>, PoolError>
+    ensures reads { OnlyReads D.SectorDevice result device.old device.new }
+    ensures mounted { IsTrue D.keeps_model → IfOk result
+        (λ l. AreMountedObjects (bytes_of (D.disk device.old).now) l.items) }
+    ensures refused { IfErr result (IsInspectionRefused D.SectorDevice device.old device.new) }
+{
+    let inspected = inspect(alloc, device)?;
+    Ok(inspected.objects)
 }
