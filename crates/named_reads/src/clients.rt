@@ -57,15 +57,7 @@ fn a_get_writes_the_bytes_of_the_object_with_the_name<
         → finite.get contents.objects 7 ≡ Some (10 ∷ 11 ∷ 12 ∷ 13 ∷ [])
         → W.contents out.old ≡ Some [] → W.contents out.new ≡ Some (11 ∷ 12 ∷ []) }
 {
-    let (status, _) = run_get_named(
-        alloc,
-        TWO_BYTES_OF_A,
-        scope,
-        BRIEF,
-        Ok(device),
-        out,
-        errors,
-    );
+    let (status, _) = run_get_named(alloc, TWO_BYTES_OF_A, scope, BRIEF, Ok(device), out, errors);
     status
 }
 
@@ -81,15 +73,7 @@ fn a_get_finds_its_name<D: SectorDevice + NotesRefusals + Drop, W: Write, E: Wri
         → MountsTo (bytes_of (D.disk device).now) contents
         → ((n : ℕ) → HasName contents (codes "a") n → ⊥) → result ≢ 0 }
 {
-    let (status, _) = run_get_named(
-        alloc,
-        TWO_BYTES_OF_A,
-        scope,
-        BRIEF,
-        Ok(device),
-        out,
-        errors,
-    );
+    let (status, _) = run_get_named(alloc, TWO_BYTES_OF_A, scope, BRIEF, Ok(device), out, errors);
     status
 }
 
@@ -125,15 +109,7 @@ fn a_get_by_name_writes_nothing_to_the_device<D: SectorDevice + NotesRefusals, W
     ensures flushes { IfOk result
         (λ after. (D.refused after).flushes ≡ (D.refused device).flushes) }
 {
-    let (_, opened) = run_get_named(
-        alloc,
-        TWO_BYTES_OF_A,
-        scope,
-        BRIEF,
-        Ok(device),
-        out,
-        errors,
-    );
+    let (_, opened) = run_get_named(alloc, TWO_BYTES_OF_A, scope, BRIEF, Ok(device), out, errors);
     opened
 }
 

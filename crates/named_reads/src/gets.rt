@@ -68,15 +68,7 @@ pub fn run_get_named<D: SectorDevice + NotesRefusals, W: Write, E: Write>(
                 offset,
                 length,
             };
-            run_get(
-                alloc,
-                arguments,
-                scope,
-                verbosity,
-                Ok(device),
-                out,
-                errors,
-            )
+            run_get(alloc, arguments, scope, verbosity, Ok(device), out, errors)
         }
         Err(failure) => {
             let status = report_name_failure(failure, name, file, verbosity, errors);

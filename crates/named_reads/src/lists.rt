@@ -97,11 +97,13 @@ pub fn run_list_named<D: SectorDevice + NotesRefusals, W: Write, E: Write>(
             return (status, Ok(device));
         }
     };
-    let status = match write_names(&list, out) {
-        Ok(()) => 0,
-        Err(failure) => report_failure(failure, file, verbosity, errors),
-    };
-    (status, Ok(device))
+    match write_names(&list, out) {
+        Ok(()) => (0, Ok(device)),
+        Err(failure) => {
+            let status = report_failure(failure, file, verbosity, errors);
+            (status, Ok(device))
+        }
+    }
 }
 
 /// The objects of what an import of the pool on a device would mount, with their names, and the device. It makes no

@@ -44,15 +44,7 @@ fn a_long_list_has_the_blocks<D: SectorDevice + NotesRefusals + Drop, W: Write, 
         → W.contents out.old ≡ Some [] → W.contents out.new ≡ Some (codes "7 2 2\n") }
 {
     let mut opened = Ok(device);
-    run_long_list(
-        alloc,
-        "tank.pool",
-        scope,
-        BRIEF,
-        &mut opened,
-        out,
-        errors,
-    )
+    run_long_list(alloc, "tank.pool", scope, BRIEF, &mut opened, out, errors)
 }
 
 fn a_list_is_one_object_of_json<D: SectorDevice + NotesRefusals + Drop, W: Write, E: Write>(
@@ -69,15 +61,7 @@ fn a_list_is_one_object_of_json<D: SectorDevice + NotesRefusals + Drop, W: Write
         ≡ Some (codes "{\"objects\":[{\"object\":7,\"length\":2,\"blocks\":2}]}\n") }
 {
     let mut opened = Ok(device);
-    run_json_list(
-        alloc,
-        "tank.pool",
-        scope,
-        BRIEF,
-        &mut opened,
-        out,
-        errors,
-    )
+    run_json_list(alloc, "tank.pool", scope, BRIEF, &mut opened, out, errors)
 }
 
 fn a_report_of_a_pool_begins_with_its_name<

@@ -89,8 +89,9 @@ pub fn run_opened<D: SectorDevice + NotesRefusals + Drop, W: Write, E: Write>(
             status
         }
         ReadCommand::GetNamed(arguments, scope) => {
-            let (status, _) =
-                run_get_named(alloc, arguments, scope, verbosity, opened, out, errors);
+            let (status, _) = run_get_named(
+                alloc, arguments, scope, verbosity, opened, out, errors,
+            );
             status
         }
     }
