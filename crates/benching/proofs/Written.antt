@@ -3,8 +3,8 @@ use Rattle.std.proofs.Common.{◌≡◌, ◌++◌, List, Option, Result, Err, Ok
 use Rattle.std.specs.Io.KnownBytes.{Appends}
 use Rattle.std.specs.Prelude.{OnOk}
 use Rattle.std.proofs.KnownBytes.{Appends-trans}
-use Rattle.benchmarks.specs.Measured.{rate_of}
 use Rattle.benchmarks.specs.declared.measured.Measured.{Measured}
+use Rattle.rates.specs.Rates.{rate_of}
 use Rattle.benching.specs.Printed.{count_lines, measured_lines, rate_lines, time_lines}
 
 -- three texts that were written one after another are one text, if the last one was written

@@ -2,8 +2,9 @@
 use Rattle.std.specs.Prelude.{ℕ, ◌++◌, codes, List, Option}
 use Rattle.std.specs.Fmt.{decimal}
 use Rattle.std.specs.Io.KnownBytes.{Appends}
-use Rattle.benchmarks.specs.Measured.{HasTimes, rate_of}
+use Rattle.benchmarks.specs.Measured.{HasTimes}
 use Rattle.benchmarks.specs.declared.measured.Measured.{Measured}
+use Rattle.rates.specs.Rates.{rate_of}
 
 -- the lines of the counts and of the time
 abbrev pub count_lines : Measured → List ℕ

@@ -1,11 +1,7 @@
 -- What a bench measured, by the times of its calls.
-use Rattle.std.specs.Prelude.{ℕ, ◌≡◌, ◌*◌, ◌-◌, ◌/◌, ◌<◌, ◌≤◌, ◌^◌, List, length, max, min}
+use Rattle.std.specs.Prelude.{ℕ, ◌≡◌, ◌*◌, ◌-◌, ◌/◌, ◌<◌, ◌≤◌, ◌^◌, List, length, min}
 use Rattle.benchmarks.specs.CallTimes.{IsTimeAt, longest_in}
 use Rattle.benchmarks.specs.declared.measured.Measured.{Measured}
-
--- how many of a count there were in a second, if so many microseconds passed
-abbrev pub rate_of : ℕ → ℕ → ℕ
-rate_of count time = min (count * 1000000 / max time 1) (2 ^ 64 - 1)
 
 -- calls of these times committed, each with so many bytes
 pub record IsMeasured (bytes : ℕ) (times : List ℕ) (m : Measured) : Type 0 where

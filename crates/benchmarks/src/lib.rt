@@ -14,7 +14,6 @@ mod call_times;
 mod clients;
 mod counted_device;
 mod measured;
-mod rates;
 mod slots;
 mod told_times;
 mod workers;

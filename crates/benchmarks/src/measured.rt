@@ -1,11 +1,12 @@
 //! What a bench measured.
 
 ghost use Rattle.std.specs.Prelude.{◌≡◌};
-ghost use Rattle.benchmarks.specs.Measured.{HasTimes, IsMeasured, rate_of};
+ghost use Rattle.benchmarks.specs.Measured.{HasTimes, IsMeasured};
+ghost use Rattle.rates.specs.Rates.{rate_of};
 
 use crate::call_times::CallTimes;
-use crate::rates::per_second;
 use base::PoolError;
+use rates::per_second;
 use std::io;
 
 /// What a bench measured. A time is in microseconds.

@@ -10,6 +10,7 @@ use command_arguments::BenchOrder;
 use device_model::SectorDevice;
 use pool_loops::Halt;
 use pool_threads::{Handle, Pool};
+use rates::in_microseconds;
 use std::alloc::Global;
 use std::rt::Clock;
 use std::sync::Wait;
@@ -114,9 +115,4 @@ impl<'a, 'p, D: SectorDevice, R: Wait + Clock> Writer<'a, 'p, D, R> {
 /// The times of no call.
 pub(crate) fn new_times(alloc: Global) -> Result<CallTimes, PoolError> {
     Ok(CallTimes::new(alloc)?)
-}
-
-/// A time in microseconds, rounded down.
-pub(crate) fn in_microseconds(time: Duration) -> u64 {
-    u64::try_from(time.as_micros()).unwrap_or(u64::MAX)
 }
