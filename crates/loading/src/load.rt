@@ -2,7 +2,7 @@
 //!
 //! 1. It empties the objects 0 to 16. Before that standard error names those of them that have bytes.
 //! 2. Nothing is written to the output before all of it has gone well. On a terminal standard error shows how much is
-//!    done.
+//!    done, in a line that is gone before anything else is written.
 
 ghost use Rattle.std.specs.Prelude.{◌≡◌, ◌≢◌, ◌≤◌, Err, IfErr, IfOk, IsErr, false};
 ghost use Rattle.command_arguments.specs.Orders.{is_order};
@@ -16,10 +16,12 @@ use pool_threads::{Limits, Pool};
 use read_commands::{BadNumber, Failure, NotesRefusals, report_failure};
 use script_lines::Answer;
 use std::alloc::Global;
+use std::fmt;
 use std::io::{self, Eprint, Write};
 use std::sync::Wait;
 use std::sync::atomic::{AtomicU64, Ordering};
 use std::thread::Threads;
+use terminal_progress::ProgressLine;
 
 /// How many objects a load empties or makes: those from 0 to the number of its streams.
 const LOADED_OBJECTS: usize = STREAMS as usize + 1;
@@ -31,7 +33,7 @@ const LOADED_OBJECTS: usize = STREAMS as usize + 1;
 /// The status is 0 if all was written. It is 1 if the order is outside its limits, which is tested before the device is
 /// called, or if the engine refused a step. It is 3 if the file was not opened as a device or `out` can't be written. A
 /// failure is reported on `errors`, and then nothing is written to `out`. With `shows_progress` standard error shows
-/// how many percent of the writes are durable.
+/// how many percent of the writes are durable while they are made.
 pub fn run_load<
     R: Threads + Wait + Sync + Eprint + AllocGlobal,
     D: SectorDevice + NotesRefusals + Send + Drop,
@@ -101,9 +103,10 @@ fn load_pool<
             &pool.close().map(|state| state.into_device()),
         )),
     }
-    let progress = Progress::new(rt, arguments.order, shows_progress);
+    let line = ProgressLine::new(rt, shows_progress);
+    let progress = Progress::new(&line, arguments.order);
     let loaded = load(rt, alloc, &pool, arguments.order, &progress);
-    progress.end();
+    line.clear();
     let loaded = match loaded {
         Ok(loaded) => loaded,
         Err(refusal) => return Err(Failure::of_closed(
@@ -141,30 +144,21 @@ fn write_loaded<W: Write>(loaded: &Loaded, out: &mut W) -> io::Result<()> {
     writeln!(out, "{}", Answer::Reply(Reply::Digest(loaded.digest)))
 }
 
-/// Shows on standard error how much of a load is durable, if it is a terminal.
+/// Shows in a line how much of a load is durable.
 #[derive(Drop)]
 struct Progress<'a, R: Eprint> {
-    rt: &'a R,
-    is_shown: bool,
+    line: &'a ProgressLine<'a, R>,
     // the waits of all streams, and those that ended
     total: u64,
     reported: AtomicU64,
 }
 
 impl<'a, R: Eprint> Progress<'a, R> {
-    fn new(rt: &'a R, order: Order, is_shown: bool) -> Self {
+    fn new(line: &'a ProgressLine<'a, R>, order: Order) -> Self {
         Progress {
-            rt,
-            is_shown,
+            line,
             total: u64::from(STREAMS) * u64::from(order.writes / WRITES_BETWEEN_WAITS),
             reported: AtomicU64::new(0),
-        }
-    }
-
-    // What is shown stays, and the next text begins a line.
-    fn end(&self) {
-        if self.is_shown && self.reported.load(Ordering::SeqCst) != 0 {
-            let _ = eprintln!(self.rt; "");
         }
     }
 }
@@ -173,14 +167,26 @@ impl<R: Eprint> Gate for Progress<'_, R> {
     fn at(&self, _stream: u32) {}
 
     fn acknowledged(&self, _stream: u32, _writes: u32) {
-        if !self.is_shown {
+        if !self.line.is_shown() {
             return;
         }
         let before = self.reported.fetch_add(1, Ordering::SeqCst);
         let percent = percent_of(before.saturating_add(1), self.total);
         if percent != percent_of(before, self.total) {
-            let _ = eprint!(self.rt; "\r{percent} percent of the writes are durable");
+            self.line.write(&DurablePart { percent });
         }
+    }
+}
+
+/// How many percent of the writes are durable. As text it says so.
+#[derive(Clone, Copy)]
+struct DurablePart {
+    percent: u64,
+}
+
+impl fmt::Display for DurablePart {
+    fn fmt<W: fmt::Write>(&self, f: &mut fmt::Formatter<W>) -> fmt::Result {
+        write!(f, "{} percent of the writes are durable", self.percent)
     }
 }
 
