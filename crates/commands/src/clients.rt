@@ -12,10 +12,11 @@ ghost use Rattle.std.specs.Prelude.{◌≡◌, [], Some, codes};
 use crate::pool_files::run_create;
 use command_arguments::{CreateArguments, Options, Verbosity};
 use file_devices::HeldFile;
-use std::io::Write;
+use std::io::{Eprint, Write};
 use std::os::unix::fs::FileExt;
-use std::rt::Files;
+use std::rt::{Clock, Files};
 use std::sync::Wait;
+use terminal_progress::ShownWork;
 
 const BRIEF: Verbosity = Verbosity::Quiet;
 
@@ -25,8 +26,9 @@ const OPTIONS: Options = Options {
 };
 
 // A file of less than 6 MiB can hold no pool.
-fn a_pool_in_a_small_file_has_status_1<R: Files + Wait, W: Write, E: Write>(
+fn a_pool_in_a_small_file_has_status_1<R: Files + Wait + Eprint + Clock, W: Write, E: Write>(
     rt: &R,
+    work: &ShownWork<'_, R>,
     out: &mut W,
     errors: &mut E,
 ) -> u8
@@ -42,12 +44,13 @@ where
         only_new: false,
         moment: 0,
     };
-    run_create(rt, arguments, OPTIONS, out, errors)
+    run_create(rt, arguments, OPTIONS, work, out, errors)
 }
 
 // A name begins with a letter.
-fn a_pool_named_by_a_digit_has_status_1<R: Files + Wait, W: Write, E: Write>(
+fn a_pool_named_by_a_digit_has_status_1<R: Files + Wait + Eprint + Clock, W: Write, E: Write>(
     rt: &R,
+    work: &ShownWork<'_, R>,
     out: &mut W,
     errors: &mut E,
 ) -> u8
@@ -63,12 +66,13 @@ where
         only_new: false,
         moment: 0,
     };
-    run_create(rt, arguments, OPTIONS, out, errors)
+    run_create(rt, arguments, OPTIONS, work, out, errors)
 }
 
 // The output had no bytes before.
-fn a_create_prints_the_name_and_the_blocks<R: Files + Wait, W: Write, E: Write>(
+fn a_create_prints_the_name_and_the_blocks<R: Files + Wait + Eprint + Clock, W: Write, E: Write>(
     rt: &R,
+    work: &ShownWork<'_, R>,
     out: &mut W,
     errors: &mut E,
 ) -> u8
@@ -85,5 +89,5 @@ where
         only_new: false,
         moment: 0,
     };
-    run_create(rt, arguments, OPTIONS, out, errors)
+    run_create(rt, arguments, OPTIONS, work, out, errors)
 }

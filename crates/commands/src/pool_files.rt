@@ -20,10 +20,11 @@ use import_replay::create;
 use labels::{Geometry, LABEL_SIZE, MAX_SIZE, MIN_SIZE, SECTOR_SIZE};
 use read_commands::{Failure, NewFile, NotesRefusals, Quoted, report_failure, report_refusal};
 use std::fmt;
-use std::io::{self, Write};
+use std::io::{Eprint, Write};
 use std::os::unix::fs::FileExt;
-use std::rt::Files;
+use std::rt::{Clock, Files};
 use std::sync::Wait;
+use terminal_progress::{ShownDevice, ShownWork};
 
 /// Makes a pool in a file, writes a line with its name and the number of its blocks to `out`, and returns the exit
 /// status.
@@ -31,11 +32,12 @@ use std::sync::Wait;
 /// The status is 0 if the pool was made. It is 1 if the engine refused it; then nothing is written. It is 3 if the file
 /// can't be used or `out` can't be written. A failure is reported on `errors`. A file can't be used if it isn't a
 /// regular file, can't be opened, made or resized, is open as a pool in this or another process after the seconds of
-/// the options, or exists though only a new one will do.
-pub fn run_create<R: Files + Wait, W: Write, E: Write>(
+/// the options, or exists though only a new one will do. What is read and written is added to `work`.
+pub fn run_create<R: Files + Wait + Eprint + Clock, W: Write, E: Write>(
     rt: &R,
     arguments: CreateArguments<'_>,
     options: Options,
+    work: &ShownWork<'_, R>,
     out: &mut W,
     errors: &mut E,
 ) -> u8
@@ -58,7 +60,8 @@ where
     };
     match pool.file.create_within(rt, options.wait) {
         Ok(device) => {
-            let (status, _) = create_on(&pool, arguments, options.verbosity, device, out, errors);
+            let shown = ShownDevice::new(device, work);
+            let (status, _) = create_on(&pool, arguments, options.verbosity, shown, out, errors);
             status
         }
         Err(cause) => {

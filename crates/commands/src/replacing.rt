@@ -30,11 +30,12 @@ use read_commands::{
     report_failure,
 };
 use std::alloc::Global;
-use std::io::{ErrorKind, Write};
+use std::io::{Eprint, ErrorKind, Write};
 use std::os::unix::fs::FileExt;
 use std::path::Path;
-use std::rt::Files;
+use std::rt::{Clock, Files};
 use std::sync::Wait;
+use terminal_progress::{ShownDevice, ShownWork};
 
 /// The name of a pool whose file has a name that no pool may have.
 const OTHER_NAME: &str = "pool";
@@ -49,11 +50,12 @@ const FIRST_CONFIG_SECTORS: u64 = 40;
 const SIZE_AT: usize = 72;
 
 /// Makes a pool in a file as `run_create` does. If the file has a pool, `errors` has a line that says so before, unless
-/// it is to be quiet. Returns the exit status.
-pub fn run_create_over<R: Files + Wait + AllocGlobal, W: Write, E: Write>(
+/// it is to be quiet. What is read and written is added to `work`. Returns the exit status.
+pub fn run_create_over<R: Files + Wait + AllocGlobal + Eprint + Clock, W: Write, E: Write>(
     rt: &R,
     arguments: CreateArguments<'_>,
     options: Options,
+    work: &ShownWork<'_, R>,
     out: &mut W,
     errors: &mut E,
 ) -> u8
@@ -68,11 +70,11 @@ where
     ensures no_usage { result ≢ 2 }
 {
     let options = if may_warn(&arguments, options.verbosity) {
-        warn_of_pool(rt, arguments.file, options, errors)
+        warn_of_pool(rt, arguments.file, options, work, errors)
     } else {
         options
     };
-    run_create(rt, arguments, options, out, errors)
+    run_create(rt, arguments, options, work, out, errors)
 }
 
 // Whether a pool may be replaced that standard error is to tell of.
@@ -83,16 +85,17 @@ fn may_warn(arguments: &CreateArguments<'_>, verbosity: Verbosity) -> bool {
 }
 
 // Says on `errors` if a file has a pool. Returns what is left of the options: it isn't waited for a file twice.
-fn warn_of_pool<R: Files + Wait + AllocGlobal, E: Write>(
+fn warn_of_pool<R: Files + Wait + AllocGlobal + Eprint + Clock, E: Write>(
     rt: &R,
     file: &str,
     options: Options,
+    work: &ShownWork<'_, R>,
     errors: &mut E,
 ) -> Options
 where
     R::File: FileExt + HeldFile,
 {
-    match find_held(rt, file, options.wait) {
+    match find_held(rt, file, options.wait, work) {
         Ok(Held::Pool) => {
             let file = FileName(file);
             let _ = writeln!(errors, "ztxg: {file} has a pool, which is replaced");
@@ -112,10 +115,11 @@ where
 ///
 /// Beside those of `run_create` the status is 3 if the file has a pool, be it damaged, and `force` isn't given; the
 /// cause says so, and the file is unchanged. A file that isn't there is made as a new one.
-pub fn run_create_sized<R: Files + Wait + AllocGlobal, W: Write, E: Write>(
+pub fn run_create_sized<R: Files + Wait + AllocGlobal + Eprint + Clock, W: Write, E: Write>(
     rt: &R,
     arguments: SizedArguments<'_>,
     options: Options,
+    work: &ShownWork<'_, R>,
     out: &mut W,
     errors: &mut E,
 ) -> u8
@@ -141,12 +145,12 @@ where
         moment: arguments.moment,
     };
     if arguments.force || arguments.only_new || !is_possible(arguments.size, name) {
-        return run_create(rt, create, options, out, errors);
+        return run_create(rt, create, options, work, out, errors);
     }
-    match find_held(rt, arguments.file, options.wait) {
+    match find_held(rt, arguments.file, options.wait, work) {
         Ok(Held::Pool) => report_pool(arguments.file, options.verbosity, errors),
-        Ok(Held::NoPool) => run_create(rt, create, options, out, errors),
-        Ok(Held::NoFile) => run_create(rt, only_as_new(create), options, out, errors),
+        Ok(Held::NoPool) => run_create(rt, create, options, work, out, errors),
+        Ok(Held::NoFile) => run_create(rt, only_as_new(create), options, work, out, errors),
         Err(cause) => {
             let failure = Failure::Unusable(cause);
             report_failure(failure, arguments.file, options.verbosity, errors)
@@ -226,17 +230,19 @@ enum Held {
 
 // What is at a path. The file is opened as for a new pool, so none is found that can't be replaced. Its lock is released
 // before it returns.
-fn find_held<R: Files + Wait + AllocGlobal>(
+fn find_held<R: Files + Wait + AllocGlobal + Eprint + Clock>(
     rt: &R,
     path: &str,
     wait: u32,
+    work: &ShownWork<'_, R>,
 ) -> Result<Held, FileRefusal>
 where
     R::File: FileExt + HeldFile,
 {
     match open_within(rt, path, Access::Write, wait) {
-        Ok(mut device) => {
-            if has_pool(rt.alloc(), &mut device) {
+        Ok(device) => {
+            let mut shown = ShownDevice::new(device, work);
+            if has_pool(rt.alloc(), &mut shown) {
                 Ok(Held::Pool)
             } else {
                 Ok(Held::NoPool)

@@ -6,17 +6,19 @@ use crate::puts::run_put_named;
 use crate::removals::run_remove_named;
 use command_arguments::{ChangeCommand, Options, Terminals};
 use commands::{read_input, run_create_over, run_create_sized, run_put, run_remove};
-use file_devices::{Access, HeldFile};
+use file_devices::{Access, FileDevice, FileRefusal, HeldFile};
 use read_commands::open_within;
-use std::io::{self, Write};
+use std::io::{self, Eprint, Write};
 use std::os::unix::fs::FileExt;
-use std::rt::Files;
+use std::rt::{Clock, Files};
 use std::sync::Wait;
+use terminal_progress::{ClearedWriter, ProgressLine, ShownDevice, ShownWork, shows_progress};
 
 /// Does a command that makes or changes a pool, and returns the exit status. A file that another process has is waited
 /// for as long as the options say. A put says on `errors` if it reads from a terminal, and its input is read before the
-/// file is opened: so nobody waits for an input with the file's lock. Failures are reported on `errors`.
-pub fn run_change<R: Files + Input + Print + AllocGlobal + Wait, E: Write>(
+/// file is opened: so nobody waits for an input with the file's lock. Failures are reported on `errors`, which is standard
+/// error. If that is a terminal, it shows how much was read and written after a second.
+pub fn run_change<R: Files + Input + Print + Eprint + AllocGlobal + Wait + Clock, E: Write>(
     rt: &R,
     command: ChangeCommand<'_>,
     options: Options,
@@ -28,33 +30,51 @@ where
     ensures { result ≤ 3 }
 {
     let Options { verbosity, wait } = options;
-    let mut out = io::writer(rt);
+    let line = ProgressLine::new(rt, shows_progress(verbosity, terminals));
+    let work = ShownWork::new(&line);
+    let mut out = ClearedWriter::new(io::writer(rt), &line);
+    let mut errors = ClearedWriter::new(errors, &line);
+    let (work, out, errors) = (&work, &mut out, &mut errors);
     match command {
         ChangeCommand::Create(arguments) => {
-            run_create_over(rt, arguments, options, &mut out, errors)
+            run_create_over(rt, arguments, options, work, out, errors)
         }
         ChangeCommand::CreateSized(arguments) => {
-            run_create_sized(rt, arguments, options, &mut out, errors)
+            run_create_sized(rt, arguments, options, work, out, errors)
         }
         ChangeCommand::Put(arguments) => {
             let input = read_object(rt, terminals, errors);
-            let opened = open_within(rt, arguments.file, Access::Write, wait);
-            run_put(rt, arguments, verbosity, input, opened, &mut out, errors)
+            let opened = open_shown(rt, arguments.file, wait, work);
+            run_put(rt, arguments, verbosity, input, opened, out, errors)
         }
         ChangeCommand::PutNamed(arguments) => {
             let input = read_object(rt, terminals, errors);
-            let opened = open_within(rt, arguments.file, Access::Write, wait);
-            run_put_named(rt, arguments, verbosity, input, opened, &mut out, errors)
+            let opened = open_shown(rt, arguments.file, wait, work);
+            run_put_named(rt, arguments, verbosity, input, opened, out, errors)
         }
         ChangeCommand::Remove(arguments) => {
-            let opened = open_within(rt, arguments.file, Access::Write, wait);
-            run_remove(rt, arguments, verbosity, opened, &mut out, errors)
+            let opened = open_shown(rt, arguments.file, wait, work);
+            run_remove(rt, arguments, verbosity, opened, out, errors)
         }
         ChangeCommand::RemoveNamed(arguments) => {
-            let opened = open_within(rt, arguments.file, Access::Write, wait);
-            run_remove_named(rt, arguments, verbosity, opened, &mut out, errors)
+            let opened = open_shown(rt, arguments.file, wait, work);
+            run_remove_named(rt, arguments, verbosity, opened, out, errors)
         }
     }
+}
+
+// A device on the file of a pool that is changed. Its work is shown.
+fn open_shown<'a, R: Files + Wait + Eprint + Clock>(
+    rt: &R,
+    file: &str,
+    wait: u32,
+    work: &'a ShownWork<'a, R>,
+) -> Result<ShownDevice<'a, FileDevice<R::File>, R>, FileRefusal>
+where
+    R::File: FileExt + HeldFile,
+{
+    let opened = open_within(rt, file, Access::Write, wait);
+    ShownDevice::of_opened(opened, work)
 }
 
 // The bytes that a put is given on standard input. If that is a terminal, it says so.

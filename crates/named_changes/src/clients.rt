@@ -19,9 +19,9 @@ use crate::change::run_change;
 use crate::laws::{new_names_are_written, removed_names_are_gone};
 use command_arguments::{ChangeCommand, Options, Terminals, Verbosity};
 use file_devices::HeldFile;
-use std::io::Write;
+use std::io::{Eprint, Write};
 use std::os::unix::fs::FileExt;
-use std::rt::Files;
+use std::rt::{Clock, Files};
 use std::sync::Wait;
 
 const BRIEF: Verbosity = Verbosity::Quiet;
@@ -32,7 +32,7 @@ const OPTIONS: Options = Options {
 };
 
 // Each status is one of the program's.
-fn no_change_has_status_4<R: Files + Input + Print + AllocGlobal + Wait, E: Write>(
+fn no_change_has_status_4<R: Files + Input + Print + Eprint + AllocGlobal + Wait + Clock, E: Write>(
     rt: &R,
     command: ChangeCommand<'_>,
     terminals: Terminals,

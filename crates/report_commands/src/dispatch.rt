@@ -9,7 +9,7 @@ use crate::long_list::run_long_list;
 use crate::pool_space::run_space;
 use command_arguments::{
     CheckArguments, ListArguments, ListForm, Options, ReadCommand, ReportArguments, ReportForm,
-    ShowArguments, ShowForm, SpaceArguments, Verbosity,
+    ShowArguments, ShowForm, SpaceArguments, Terminals, Verbosity,
 };
 use device_model::SectorDevice;
 use file_devices::{Access, FileRefusal, HeldFile};
@@ -19,17 +19,20 @@ use read_commands::{
     run_show_fast,
 };
 use std::alloc::Global;
-use std::io::{self, Write};
+use std::io::{self, Eprint, Write};
 use std::os::unix::fs::FileExt;
-use std::rt::Files;
+use std::rt::{Clock, Files};
 use std::sync::Wait;
+use terminal_progress::{ClearedWriter, ProgressLine, ShownDevice, ShownWork, shows_progress};
 
 /// Does a command that only reads the pool's file, and returns the exit status. A file that another process has is
-/// waited for as long as the options say. Failures are reported on `errors`, which is standard error.
-pub fn run_read<R: Files + Print + AllocGlobal + Wait, E: Write>(
+/// waited for as long as the options say. Failures are reported on `errors`, which is standard error. If that is a
+/// terminal, it shows how much was read after a second.
+pub fn run_read<R: Files + Print + Eprint + AllocGlobal + Wait + Clock, E: Write>(
     rt: &R,
     command: ReadCommand<'_>,
     options: Options,
+    terminals: Terminals,
     errors: &mut E,
 ) -> u8
 where
@@ -37,16 +40,14 @@ where
     ensures range { result ≤ 3 }
     ensures no_usage { result ≢ 2 }
 {
-    let opened = open_within(rt, file_of(command), Access::Read, options.wait);
-    let mut out = io::writer(rt);
-    run_opened(
-        rt.alloc(),
-        command,
-        options.verbosity,
-        opened,
-        &mut out,
-        errors,
-    )
+    let Options { verbosity, wait } = options;
+    let line = ProgressLine::new(rt, shows_progress(verbosity, terminals));
+    let work = ShownWork::new(&line);
+    let opened = open_within(rt, file_of(command), Access::Read, wait);
+    let shown = ShownDevice::of_opened(opened, &work);
+    let mut out = ClearedWriter::new(io::writer(rt), &line);
+    let mut errors = ClearedWriter::new(errors, &line);
+    run_opened(rt.alloc(), command, verbosity, shown, &mut out, &mut errors)
 }
 
 // The path of the pool's file.

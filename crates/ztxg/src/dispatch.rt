@@ -16,11 +16,12 @@ use std::os::unix::fs::FileExt;
 use std::rt::{Clock, Files};
 use std::sync::Wait;
 use std::thread::Threads;
+use terminal_progress::shows_progress;
 
 /// Does a command of the program, and returns the exit status. A file that another process has is waited for as long as
-/// the options say, and a script may wait for its pool. A load, a serve and a bench have threads. A load shows its
-/// progress if standard error is a terminal. A put says if it reads from a terminal, and a serve isn't done if it would
-/// answer to one. Failures are reported on `errors`, which is standard error.
+/// the options say, and a script may wait for its pool. A load, a serve and a bench have threads. A load and those that
+/// read, make or change a pool show on a terminal how far they are. A put says if it reads from a terminal, and a serve
+/// isn't done if it would answer to one. Failures are reported on `errors`, which is standard error.
 pub(crate) fn run<
     R: Files + Input + Print + Eprint + AllocGlobal + Threads + Wait + Clock + Sync,
     E: Write,
@@ -31,7 +32,7 @@ where
 {
     let Options { verbosity, wait } = options;
     match arguments {
-        Arguments::Read(command) => run_read(rt, command, options, errors),
+        Arguments::Read(command) => run_read(rt, command, options, terminals, errors),
         Arguments::Change(command) => run_change(rt, command, options, terminals, errors),
         Arguments::Bench(arguments) => {
             run_bench(rt, arguments, options, &mut io::writer(rt), errors)
@@ -42,7 +43,7 @@ where
             arguments,
             verbosity,
             open_within(rt, arguments.file, Access::Write, wait),
-            terminals.errors,
+            shows_progress(verbosity, terminals),
             &mut io::writer(rt),
             errors,
         ),

@@ -16,10 +16,11 @@ use command_arguments::{CreateArguments, SizedArguments};
 use device_model::SectorDevice;
 use file_devices::HeldFile;
 use std::alloc::Global;
-use std::io::Write;
+use std::io::{Eprint, Write};
 use std::os::unix::fs::FileExt;
-use std::rt::Files;
+use std::rt::{Clock, Files};
 use std::sync::Wait;
+use terminal_progress::ShownWork;
 
 // A pool of 8 MiB whose name is that of the file.
 const OF_FILE: SizedArguments<'static> = SizedArguments {
@@ -34,10 +35,10 @@ const OF_FILE: SizedArguments<'static> = SizedArguments {
 
 // A file of less than 6 MiB can hold no pool, whatever it holds now.
 fn a_small_size_has_status_1_whatever_the_file_holds<
-    R: Files + Wait + AllocGlobal,
+    R: Files + Wait + AllocGlobal + Eprint + Clock,
     W: Write,
     E: Write,
->(rt: &R, out: &mut W, errors: &mut E) -> u8
+>(rt: &R, work: &ShownWork<'_, R>, out: &mut W, errors: &mut E) -> u8
 where
     R::File: FileExt + HeldFile,
     ensures { result ≡ 1 }
@@ -46,14 +47,14 @@ where
         size: 6_291_455,
         ..OF_FILE
     };
-    run_create_sized(rt, arguments, OPTIONS, out, errors)
+    run_create_sized(rt, arguments, OPTIONS, work, out, errors)
 }
 
 fn a_name_that_is_none_has_status_1_whatever_the_file_holds<
-    R: Files + Wait + AllocGlobal,
+    R: Files + Wait + AllocGlobal + Eprint + Clock,
     W: Write,
     E: Write,
->(rt: &R, out: &mut W, errors: &mut E) -> u8
+>(rt: &R, work: &ShownWork<'_, R>, out: &mut W, errors: &mut E) -> u8
 where
     R::File: FileExt + HeldFile,
     ensures { result ≡ 1 }
@@ -62,29 +63,29 @@ where
         name: Some("4tank"),
         ..OF_FILE
     };
-    run_create_sized(rt, arguments, OPTIONS, out, errors)
+    run_create_sized(rt, arguments, OPTIONS, work, out, errors)
 }
 
 // The output had no bytes before.
-fn a_pool_without_a_name_has_that_of_its_file<R: Files + Wait + AllocGlobal, W: Write, E: Write>(
-    rt: &R,
-    out: &mut W,
-    errors: &mut E,
-) -> u8
+fn a_pool_without_a_name_has_that_of_its_file<
+    R: Files + Wait + AllocGlobal + Eprint + Clock,
+    W: Write,
+    E: Write,
+>(rt: &R, work: &ShownWork<'_, R>, out: &mut W, errors: &mut E) -> u8
 where
     R::File: FileExt + HeldFile,
     ensures { result ≡ 0 → W.contents out.old ≡ Some []
         → W.contents out.new ≡ Some (codes "created tank 896 blocks\n") }
 {
-    run_create_sized(rt, OF_FILE, OPTIONS, out, errors)
+    run_create_sized(rt, OF_FILE, OPTIONS, work, out, errors)
 }
 
 // The output had no bytes before.
 fn a_create_over_a_pool_prints_the_name_and_the_blocks<
-    R: Files + Wait + AllocGlobal,
+    R: Files + Wait + AllocGlobal + Eprint + Clock,
     W: Write,
     E: Write,
->(rt: &R, out: &mut W, errors: &mut E) -> u8
+>(rt: &R, work: &ShownWork<'_, R>, out: &mut W, errors: &mut E) -> u8
 where
     R::File: FileExt + HeldFile,
     ensures { result ≡ 0 → W.contents out.old ≡ Some []
@@ -98,7 +99,7 @@ where
         only_new: false,
         moment: 0,
     };
-    run_create_over(rt, arguments, OPTIONS, out, errors)
+    run_create_over(rt, arguments, OPTIONS, work, out, errors)
 }
 
 fn a_file_that_has_a_pool_has_status_3<E: Write>(errors: &mut E) -> u8
