@@ -10,8 +10,9 @@ files hold.
 - Sizes with a letter, `create --size`, long lists, the space of a pool, reports as JSON (`tools/rows/report_rows.py`).
 - Faults of the command line, files that can't be used and why, values outside their limits, locks of other processes,
   output that can't be written, standard streams that are closed or terminals.
-- A script answers each line before the next one comes. A load shows its progress on a terminal alone, and names the
-  objects that it empties. A bench prints numbers that agree, leaves no file, and takes none that is there.
+- A script answers each line before the next one comes. A load shows its progress on a terminal alone, where it is gone
+  at the end, and names the objects that it empties. A bench prints numbers that agree, leaves no file, and takes none
+  that is there.
 - The help and the version.
 
 Each difference is printed, and then the status is 1. The end prints how many runs were compared.
@@ -35,6 +36,7 @@ from tools import TOP
 from tools.harness import program
 from tools.harness.judge import Judge
 from tools.harness.program import Conversation, add_program
+from tools.harness.terminal import screen
 from tools.model import layout
 from tools.model.formats import table
 from tools.model.layout import AREA, BLOCK, CONFIG_AT, LABEL, MIB, block_count, slot_places
@@ -688,6 +690,8 @@ class Commands(Judge):
         percents = [int(found) for found in re.findall(rb"(\d+) percent of the writes are durable", shown)]
         if running.returncode or not out.startswith(b"committed 145\n") or not percents or max(percents) != 100:
             self.differ("a load on a terminal shows", shown)
+        if screen(shown) != [""]:
+            self.differ("a load leaves on a terminal", screen(shown))
 
     def benches(self):
         """A bench prints a line for each of its numbers and leaves no file. One that is there is left as it is."""

@@ -85,6 +85,7 @@ def all_checks():
         Check("path_reads", needs=cc),
         Check("installs", needs=[*cc, "make", "pkg-config"]),
         Check("two_creates", ["20"]),
+        Check("progress", needs=cc),
         Check("frame_rows"),
         Check("refused_calls", needs=cc),
         Check("file_calls", needs=cc),

@@ -4,6 +4,7 @@ import pathlib
 import shutil
 import sys
 import tempfile
+import time
 import unittest
 
 from tools.harness import shims
@@ -86,6 +87,11 @@ class Shims(unittest.TestCase):
                 failing = {"FAIL_KIND": kind, "FAIL_AT": str(at), "COUNT_FILE": counts.path}
                 self.assertEqual(self.calls(shim, **failing), [str(errno.EIO)])
                 self.assertEqual(counts.read()[kind], at)
+
+    def test_calls_take_longer(self):
+        begun = time.monotonic()
+        self.assertEqual(self.calls(shims.Shim("delays", self.folder), DELAY="40"), ["0"])
+        self.assertGreaterEqual(time.monotonic() - begun, 5 * 0.04)
 
     def test_requests_for_memory_are_counted(self):
         with shims.shared_counts("requests") as counts:

@@ -348,7 +348,7 @@ pub(crate) const QUIET: Word = Word {
     name: "quiet",
     form: Form::Letter('q'),
     rule: Rule::Free,
-    help: "If the command is not done, leaves out the cause",
+    help: "If the command is not done, leaves out the cause; shows no progress",
 };
 
 /// Programs give it since the cause was not reported without it.
