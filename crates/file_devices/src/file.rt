@@ -1,4 +1,4 @@
-//! A device on a file: a pool on it outlives the process.
+//! A device on a file: a pool on it outlives the process. The file is a regular one or a block device.
 //!
 //! It reads and writes the file at places, and a flush is the file's sync call. Its sectors are those that the file has
 //! whole when the device is made; the bytes after the last of them it never reads or writes.
@@ -64,13 +64,14 @@ impl<F: SectorFile + Drop> FileDevice<F> {
     /// A device of the whole sectors of an open file, whose lock it doesn't take. Nothing is read or written.
     ///
     /// # Errors
-    /// `Read` if the file doesn't return its length, or is not a regular file.
+    /// `Read` if the file doesn't return its length, or is neither a regular file nor a block device.
     pub fn new(file: F) -> Result<Self, PoolError>
         ensures none_refused { IfOk result (λ device. device.refused ≡ none_refused) }
         ensures no_error { IfOk result (λ device. device.last ≡ None) }
         ensures disk { IfOk result (λ device. device.disk ≡ F.disk file) }
         ensures refused { IfErr result (λ e. e ≡ PoolError.Read) }
     {
+        let mut file = file;
         let Some(sectors) = file.sectors() else {
             return Err(PoolError::Read);
         };

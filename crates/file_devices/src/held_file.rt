@@ -3,21 +3,26 @@
 //! 1. A device that writes holds its file's exclusive lock, and one that only reads a shared one, as long as it
 //!    lives: so a pool in a file has one owner at a time (SQLite locks its database file so).
 //! 2. The lock is taken before the file is sized or read, and without waiting.
-//! 3. Only a regular file is opened. Opening a pipe could wait for its other end, and a terminal has no sectors.
+//! 3. Only a regular file or a block device is opened. Opening a pipe could wait for its other end, and a terminal has
+//!    no sectors.
 //! 4. Once a file may have been made, its folder is synced. Else a power failure could lose its name, and with it all
 //!    that was flushed (`fsync(2)`; RocksDB syncs a new file's folder so).
+//! 5. A regular file is given its size, and a block device has one. A device on either has all its sectors: a pool
+//!    finds its labels by the end of its file, so it can't lie in the front of a longer one.
 //!
-//! The lock is advisory (`flock`): a process that opens the file without taking it isn't kept out.
+//! The lock is advisory (`flock`): a process that opens the file without taking it isn't kept out. Nor is one that
+//! opens the same block device by another node, or on another machine.
 
 ghost use Rattle.std.specs.Prelude.{◌≡◌, IfOk, IsOk, OnOk};
 ghost use Rattle.file_devices.specs.FileState.{HasSectorsOf, none_refused, size_of};
 
 use crate::file::FileDevice;
-use crate::sector_file::SectorFile;
+use crate::sector_file::{SectorFile, has_sectors};
 use base::SECTOR_SIZE;
 use device_model::SectorDevice;
 use std::fs::{File, OpenFile, OpenOptions, TryLockError};
 use std::io;
+use std::os::unix::fs::FileTypeExt;
 use std::path::Path;
 use std::rt::Files;
 use thiserror::Error;
@@ -37,7 +42,7 @@ pub enum FileRefusal {
     /// The system refused to open, to lock or to size the file.
     #[error("{0}")]
     System(#[from] io::Error),
-    /// The file is a folder, a pipe or another kind of file that is no regular one.
+    /// The file is a folder, a pipe or another kind of file that is neither a regular one nor a block device.
     #[error("not a regular file")]
     NotRegular,
     /// Another device holds the file, in this process or in another one.
@@ -46,7 +51,7 @@ pub enum FileRefusal {
     /// The file's folder can't be opened or synced, so a power failure may lose the file's name.
     #[error("the folder of the file can't be synced: {0}")]
     Folder(io::Error),
-    /// The file didn't get the size that it was given.
+    /// The file didn't get the size that it was given, or is a block device of another size.
     #[error("the file didn't get its size")]
     NotSized,
 }
@@ -83,52 +88,57 @@ impl HeldFile for File {
 }
 
 impl<F: SectorFile + HeldFile + OpenFile + Drop> FileDevice<F> {
-    /// A device on the file at a path, to read and to write. It holds the file's exclusive lock until it is dropped.
+    /// A device on the file or block device at a path, to read and to write. It holds the file's exclusive lock until
+    /// it is dropped.
     ///
     /// # Errors
-    /// `NotRegular` if the file is no regular file, `System` if it can't be opened to read and to write, `InUse` if
-    /// another device holds it.
+    /// `NotRegular` if the file is neither a regular file nor a block device, `System` if it can't be opened to read
+    /// and to write, `InUse` if another device holds it.
     pub fn open<R: Files<File = F>>(files: &R, path: &str) -> Result<Self, FileRefusal>
         ensures { IfOk result (λ device. device.refused ≡ none_refused) }
     {
         let mut how = File::options();
         how.read(true).write(true);
-        let file = open_regular(files, &how, path)?;
+        let file = open_sectored(files, &how, path)?;
         FileDevice::hold(file, Access::Write)
     }
 
-    /// A device on the file at a path, to read alone. It holds a shared lock of the file until it is dropped, and
-    /// refuses each write.
+    /// A device on the file or block device at a path, to read alone. It holds a shared lock of the file until it is
+    /// dropped, and refuses each write.
     ///
     /// # Errors
-    /// `NotRegular` if the file is no regular file, `System` if it can't be opened to read, `InUse` if a device that
-    /// writes holds it.
+    /// `NotRegular` if the file is neither a regular file nor a block device, `System` if it can't be opened to read,
+    /// `InUse` if a device that writes holds it.
     pub fn open_to_read<R: Files<File = F>>(files: &R, path: &str) -> Result<Self, FileRefusal>
         ensures { IfOk result (λ device. device.refused ≡ none_refused) }
     {
         let mut how = File::options();
         how.read(true);
-        let file = open_regular(files, &how, path)?;
+        let file = open_sectored(files, &how, path)?;
         FileDevice::hold(file, Access::Read)
     }
 
     /// A device on a file of `size` bytes. If there is no file at the path, it is made; a file that is there is cut or
     /// lengthened by zeros, once its lock is held. The device holds the exclusive lock until it is dropped.
     ///
+    /// A block device keeps the size that it has. It has to have the whole sectors of `size` bytes, neither fewer nor
+    /// more.
+    ///
     /// The file's folder is synced before, so a power failure doesn't lose the file's name. It is the folder that the
     /// path names: a file that is made through a symbolic link may lie in another one, which isn't synced.
     ///
     /// # Errors
-    /// `NotRegular` if the file is no regular file, `System` if it can't be opened, made or sized, `Folder` if its
-    /// folder can't be opened or synced, `InUse` if another device holds it, `NotSized` if it didn't get its size. A
-    /// file that is refused so keeps its size, unless sizing it failed. One that was made for it stays.
+    /// `NotRegular` if the file is neither a regular file nor a block device, `System` if it can't be opened, made or
+    /// sized, `Folder` if its folder can't be opened or synced, `InUse` if another device holds it, `NotSized` if it
+    /// didn't get its size, or is a block device of another one. A file that is refused so keeps its size, unless
+    /// sizing it failed. One that was made for it stays.
     pub fn create<R: Files<File = F>>(files: &R, path: &str, size: u64) -> Result<Self, FileRefusal>
         ensures none_refused { IfOk result (λ device. device.refused ≡ none_refused) }
         ensures sized { IfOk result (λ device. HasSectorsOf size (size_of F.keeps_model device)) }
     {
         let mut how = File::options();
         how.read(true).write(true).create(true);
-        let file = make_regular(files, &how, path)?;
+        let file = make_sectored(files, &how, path)?;
         FileDevice::hold_sized(file, size)
     }
 
@@ -146,7 +156,7 @@ impl<F: SectorFile + HeldFile + OpenFile + Drop> FileDevice<F> {
     {
         let mut how = File::options();
         how.read(true).write(true).create_new(true);
-        let file = make_regular(files, &how, path)?;
+        let file = make_sectored(files, &how, path)?;
         FileDevice::hold_sized(file, size)
     }
 
@@ -154,7 +164,7 @@ impl<F: SectorFile + HeldFile + OpenFile + Drop> FileDevice<F> {
     ///
     /// # Errors
     /// `InUse` if another open of the file holds a lock that excludes this one; `System` if the file can't be locked;
-    /// `NotRegular` if it is no regular file, or doesn't return its length.
+    /// `NotRegular` if it is neither a regular file nor a block device, or doesn't return its length.
     pub fn hold(file: F, access: Access) -> Result<Self, FileRefusal>
         ensures held { IsOk result → F.is_held file access }
         ensures none_refused { IfOk result (λ device. device.refused ≡ none_refused) }
@@ -164,14 +174,15 @@ impl<F: SectorFile + HeldFile + OpenFile + Drop> FileDevice<F> {
         FileDevice::new(file).map_err(|_| FileRefusal::NotRegular)
     }
 
-    // Holds a file that is open for writing, and then gives it its size, of which a device has the whole sectors.
+    // Holds a file that is open for writing, and then gives it its size, of which a device has the whole sectors. A
+    // block device has to have it.
     pub(crate) fn hold_sized(file: F, size: u64) -> Result<Self, FileRefusal>
         ensures held { IsOk result → F.is_held file Access.Write }
         ensures none_refused { IfOk result (λ device. device.refused ≡ none_refused) }
         ensures sized { IfOk result (λ device. HasSectorsOf size (size_of F.keeps_model device)) }
     {
         file.try_hold(Access::Write)?;
-        file.set_len(size)?;
+        give_size(&file, size)?;
         let device = FileDevice::new(file).map_err(|_| FileRefusal::NotRegular)?;
         if device.sectors() != size / SECTOR_SIZE {
             return Err(FileRefusal::NotSized);
@@ -180,14 +191,22 @@ impl<F: SectorFile + HeldFile + OpenFile + Drop> FileDevice<F> {
     }
 }
 
-// Opens a file of which it is known before that it is regular, or is not there yet.
-fn open_regular<R: Files>(
+// Gives a file its size, unless it is a block device.
+fn give_size<F: OpenFile>(file: &F, size: u64) -> io::Result<()> {
+    if file.metadata()?.file_type().is_block_device() {
+        return Ok(());
+    }
+    file.set_len(size)
+}
+
+// Opens a file of which it is known before that it has sectors, or is not there yet.
+fn open_sectored<R: Files>(
     files: &R,
     how: &OpenOptions,
     path: &str,
 ) -> Result<R::File, FileRefusal> {
     if let Ok(metadata) = files.metadata(path) {
-        if !metadata.is_file() {
+        if !has_sectors(metadata.file_type()) {
             return Err(FileRefusal::NotRegular);
         }
     }
@@ -195,13 +214,13 @@ fn open_regular<R: Files>(
     Ok(file)
 }
 
-// Opens a regular file, which may be made so, and syncs its folder.
-fn make_regular<R: Files>(
+// Opens a file with sectors, which may be made so, and syncs its folder.
+fn make_sectored<R: Files>(
     files: &R,
     how: &OpenOptions,
     path: &str,
 ) -> Result<R::File, FileRefusal> {
-    let file = open_regular(files, how, path)?;
+    let file = open_sectored(files, how, path)?;
     match sync_folder(files, path) {
         Ok(()) => Ok(file),
         Err(error) => Err(FileRefusal::Folder(error)),

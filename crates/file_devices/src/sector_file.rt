@@ -7,6 +7,9 @@
 //!
 //! A refused call has its cause, for the text of the refusal (`FileDevice::last_error`).
 //!
+//! A regular file has sectors, and so has a block device. Both have the length that a seek to the end gives: `fstat`
+//! gives 0 of a block device.
+//!
 //! A device asks before each write and each flush whether its file is still whole. It asks by a seek to the end, not by
 //! `fstat`: once a program has asked for a file's times, Linux dates the file anew at the next write, and the next sync
 //! writes the inode too. No read or write is made at the place that a seek leaves behind.
@@ -21,9 +24,9 @@ ghost use Rattle.file_devices.specs.FileState.{no_disk, refused_as};
 
 use crate::refused_call::CallCause;
 use base::SECTOR_SIZE;
-use std::fs::OpenFile;
+use std::fs::{FileType, OpenFile};
 use std::io::{Seek, SeekFrom};
-use std::os::unix::fs::FileExt;
+use std::os::unix::fs::{FileExt, FileTypeExt};
 
 /// A file of sectors of 512 bytes, read and written in whole sectors at byte places.
 ///
@@ -35,12 +38,13 @@ pub trait SectorFile {
     /// The disk: what a read gives, and what a crash may leave, at each moment so far.
     ghost disk: { Self → Disk };
 
-    /// How many whole sectors of 512 bytes the file has now. None if it doesn't return its length, or is not a
-    /// regular file. On its disk each write that counts was handed at an earlier moment.
-    fn sectors(&self) -> Option<u64>
+    /// How many whole sectors of 512 bytes the file has now. None if it doesn't return its length, or is neither a
+    /// regular file nor a block device. On its disk each write that counts was handed at an earlier moment.
+    fn sectors(&mut self) -> Option<u64>
         ensures size { IsTrue keeps_model
-            → IfSome result (λ count. disk_size (disk self.now) ≡ sector_size * count) }
-        ensures earlier { IsTrue keeps_model → HasEarlierWrites (disk self.now) };
+            → IfSome result (λ count. disk_size (disk self.new) ≡ sector_size * count) }
+        ensures earlier { IsTrue keeps_model → HasEarlierWrites (disk self.new) }
+        ensures disk { disk self.new ≡ disk self.old };
 
     /// Tests that the file has at least so many whole sectors now. Refused if it has fewer, or doesn't return its
     /// length.
@@ -77,12 +81,13 @@ impl<F: FileExt + OpenFile + Seek> SectorFile for F {
 
     ghost disk = { λ _. no_disk };
 
-    fn sectors(&self) -> Option<u64> {
+    fn sectors(&mut self) -> Option<u64> {
         let metadata = self.metadata().ok()?;
-        if !metadata.is_file() {
+        if !has_sectors(metadata.file_type()) {
             return None;
         }
-        Some(whole_sectors(metadata.len()))
+        let length = self.seek(SeekFrom::End(0)).ok()?;
+        Some(whole_sectors(length))
     }
 
     fn check_sectors(&mut self, count: u64) -> Result<(), CallCause> {
@@ -104,6 +109,11 @@ impl<F: FileExt + OpenFile + Seek> SectorFile for F {
     fn sync(&mut self) -> Result<(), CallCause> {
         self.sync_all().map_err(CallCause::System)
     }
+}
+
+/// Whether files of this type have sectors.
+pub(crate) fn has_sectors(file_type: FileType) -> bool {
+    file_type.is_file() || file_type.is_block_device()
 }
 
 // How many whole sectors lie in this many bytes.
