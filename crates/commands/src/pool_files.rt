@@ -30,9 +30,10 @@ use terminal_progress::{ShownDevice, ShownWork};
 /// status.
 ///
 /// The status is 0 if the pool was made. It is 1 if the engine refused it; then nothing is written. It is 3 if the file
-/// can't be used or `out` can't be written. A failure is reported on `errors`. A file can't be used if it isn't a
-/// regular file, can't be opened, made or resized, is open as a pool in this or another process after the seconds of
-/// the options, or exists though only a new one will do. What is read and written is added to `work`.
+/// can't be used or `out` can't be written. A failure is reported on `errors`. A file can't be used if it is neither a
+/// regular file nor a block device of this size, can't be opened, made or resized, is open as a pool in this or another
+/// process after the seconds of the options, or exists though only a new one will do. What is read and written is added
+/// to `work`.
 pub fn run_create<R: Files + Wait + Eprint + Clock, W: Write, E: Write>(
     rt: &R,
     arguments: CreateArguments<'_>,
