@@ -84,6 +84,7 @@ def all_checks():
         Check("named_objects"),
         Check("path_reads", needs=cc),
         Check("installs", needs=[*cc, "make", "pkg-config"]),
+        Check("block_devices", needs=["cc", "losetup"]),
         Check("two_creates", ["20"]),
         Check("progress", needs=cc),
         Check("frame_rows"),

@@ -1,8 +1,8 @@
-/* Notes the writes, syncs and sizes of regular files and the syncs of folders, a line each, in the file that CALLS_FILE
-   names. The bytes of the writes go into the file that BYTES_FILE names, one after the other. With NOTE_OUTPUT each
-   sync of a regular file has a line at its end too, and each write to standard output one before it. With NOTE_FILES
-   each line of a regular file has the file's name behind it, and each removal of a file has a line. With NOTE_READS
-   each read of a regular file at a place has a line. */
+/* Notes the writes, syncs and sizes of regular files and block devices, and the syncs of folders, a line each, in the
+   file that CALLS_FILE names. The bytes of the writes go into the file that BYTES_FILE names, one after the other. With
+   NOTE_OUTPUT each sync but a folder's has a line at its end too, and each write to standard output one before it. With
+   NOTE_FILES each line but a folder's has the file's name behind it, and each removal of a file has a line. With
+   NOTE_READS each read of a file at a place has a line. */
 
 #include "shim.h"
 #include <limits.h>
@@ -42,7 +42,7 @@ static void note_named(int file, const char *name, long long place, long long si
 
 static int note(int file, const char *name, long long place, long long size) {
     struct stat is;
-    if (noted < 0 || fstat(file, &is) || !S_ISREG(is.st_mode)) return 0;
+    if (noted < 0 || fstat(file, &is) || !(S_ISREG(is.st_mode) || S_ISBLK(is.st_mode))) return 0;
     if (notes_files) note_named(file, name, place, size);
     else dprintf(noted, "%s %lld %lld\n", name, place, size);
     return 1;
