@@ -62,7 +62,7 @@ enum {
     TOPZERAD_ENDED = 201,
     /* The pool was opened before a fork, and the caller is the child. It opens a pool of its own. */
     TOPZERAD_FORKED = 202,
-    /* The file can't be used, and the system has no error number for that, as for a file that is no regular one. */
+    /* The file can't be used, and the system has no error number for that, as for a folder. */
     TOPZERAD_UNUSABLE = 203,
     /* The process didn't answer within the timeout. Whether the call took place is not known. */
     TOPZERAD_TIMED_OUT = 204,
