@@ -23,7 +23,7 @@ pub(crate) const READ_FILE: Word = Word {
     name: "FILE",
     form: Form::Place(ValueParser::String),
     rule: Rule::Needed,
-    help: "The path of the file, a regular file that no process has open as a pool to write",
+    help: "The path of the file or block device, which no process has open as a pool to write",
 };
 
 /// The file of a pool that the command changes.
@@ -31,7 +31,7 @@ pub(crate) const WRITTEN_FILE: Word = Word {
     name: "FILE",
     form: Form::Place(ValueParser::String),
     rule: Rule::Needed,
-    help: "The path of the file, a regular file that no process has open as a pool",
+    help: "The path of the file or block device, which no process has open as a pool",
 };
 
 /// The file of a new pool.
