@@ -6,6 +6,7 @@
 mod clients;
 mod laws;
 mod listing;
+mod names;
 mod own_records;
 mod paths;
 mod view;
