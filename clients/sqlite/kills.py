@@ -1,0 +1,162 @@
+"""Kills of processes that have a database, and of the processes that have its pool. No commit that was acknowledged is
+lost, and the database is sound. As a program it is one of these writers."""
+
+import argparse
+import os
+import random
+import signal
+import subprocess
+import sys
+import time
+
+from databases import Hub, children, connect, load, new_pool, one, set_mode, sqlite3, want, want_sound
+
+# Journal modes, and how far a commit is synced in each: so far that no power failure takes it back.
+MODES = [("delete", "extra"), ("truncate", "full"), ("persist", "full"), ("wal", "full")]
+SCHEMA = """create table if not exists counts(writer integer primary key, count integer);
+create table if not exists rows(id integer primary key, writer integer, count integer, bytes blob);
+create index if not exists by_writer on rows(writer, count);"""
+
+
+def count_up(connection, writer, chance):
+    """A transaction: the writer's count rises, and each count has a row. Returns the count."""
+    connection.execute("begin immediate")
+    count = one(connection, "select count from counts where writer=?", writer) + 1
+    connection.execute("update counts set count=? where writer=?", (count, writer))
+    size = chance.choice([10, 500, 5_000, 50_000])
+    connection.execute("insert into rows(writer, count, bytes) values (?, ?, zeroblob(?))", (writer, count, size))
+    connection.execute("update rows set bytes=zeroblob(1) where writer=? and count=?", (writer, count - 5))
+    connection.execute("commit")
+    return count
+
+
+def write(words):
+    """Counts up until it is killed, and tells each count that was acknowledged."""
+    load(words.extension)
+    where = {"socket": words.place} if words.socket else {"pool": words.place}
+    connection = connect("app.db", words.program, **where)
+    connection.execute("pragma cache_size=20")
+    set_mode(connection, words.mode, words.synchronous)
+    chance = random.Random(words.seed)
+    try:
+        while True:
+            print(count_up(connection, words.writer, chance), flush=True)
+    except sqlite3.OperationalError as error:
+        print("error:", error, flush=True)
+
+
+class Writer:
+    """A process that counts up in a database."""
+
+    def __init__(self, tests, place, mode, number=1, socket=False):
+        words = [sys.executable, __file__, tests.chosen.bin / "topzerad.so", tests.program, place, *mode, number,
+                 random.randrange(1 << 30)]  # fmt: skip
+        words += ["--socket"] if socket else []
+        self.process = subprocess.Popen([str(word) for word in words], stdout=subprocess.PIPE, text=True)
+
+    def kill(self, victim):
+        """Kills the writer, its server, or both."""
+        servers = list(children(self.process.pid)) if victim != "writer" else []
+        for number in servers:
+            os.kill(number, signal.SIGKILL)
+        if victim != "server" or not servers:
+            self.process.kill()
+
+    def end(self):
+        """Waits for its end. Returns the last count that was acknowledged, or 0."""
+        lines = self.process.communicate()[0].splitlines()
+        return max([int(line) for line in lines if line.isdigit()], default=0)
+
+
+def make(connection, writers):
+    connection.executescript(SCHEMA)
+    for number in range(1, writers + 1):
+        connection.execute("insert into counts values (?, 0)", (number,))
+
+
+def want_counts(connection, writer, acknowledged, what):
+    """The count is the last that was acknowledged, or the next one. There is a row for each."""
+    count = one(connection, "select count from counts where writer=?", writer)
+    want(acknowledged <= count <= acknowledged + 1, what, "acknowledged was", acknowledged, "and there is", count)
+    rows = one(connection, "select count(distinct count) from rows where writer=? and count between 1 and ?", writer,
+               count)  # fmt: skip
+    want(rows == count == one(connection, "select count(*) from rows where writer=?", writer), what, "rows", rows,
+         "of", count)  # fmt: skip
+    return count
+
+
+def kills_in_a_journal_mode(tests, mode):
+    """Kills in the middle of transactions. The next one goes on where the one before was killed."""
+    chance, pool = random.Random(tests.chosen.seed), new_pool(tests, 256 << 20, f"{mode[0]}.pool")
+    before = commits = 0
+    connection = connect("app.db", tests.program, pool=pool)
+    make(connection, 1)
+    connection.close()
+    for at in range(tests.chosen.kills):
+        victim = ["writer", "server", "both"][at % 3]
+        writer = Writer(tests, pool, mode)
+        time.sleep(0.4 + chance.random() * 0.6)
+        writer.kill(victim)
+        acknowledged = writer.end()
+        connection = connect("app.db", tests.program, pool=pool)
+        want_sound(connection)
+        count = want_counts(connection, 1, max(acknowledged, before), f"{mode}, kill {at} of {victim}:")
+        commits += max(acknowledged - before, 0)
+        before = count
+        connection.close()
+    want(tests.chosen.kills < 5 or commits > tests.chosen.kills, "too few commits:", commits)
+    print(f"{mode[0]}: {tests.chosen.kills} kills, {commits} acknowledged commits, none lost")
+
+
+def kills(tests):
+    for mode in MODES:
+        kills_in_a_journal_mode(tests, mode)
+
+
+def kills_beside_others(tests):
+    """Three programs count up in one database by a hub. One of them is killed, the others go on, and at the end the hub
+    or its server is killed."""
+    chance, before = random.Random(tests.chosen.seed), [0, 0, 0, 0]
+    folder = None
+    commits = 0
+    for at in range(tests.chosen.kills):
+        mode = MODES[at % 3]
+        hub = Hub(tests, "--wait", "60", folder=folder)
+        connection = connect("app.db", tests.program, socket=hub.path)
+        if folder is None:
+            make(connection, 3)
+        folder = hub.folder
+        connection.close()
+        writers = [Writer(tests, hub.path, mode, number, socket=True) for number in (1, 2, 3)]
+        time.sleep(0.4 + chance.random() * 0.6)
+        writers[0].kill("writer")
+        acknowledged = [0, writers[0].end()]
+        connection = connect("app.db", tests.program, socket=hub.path)
+        before[1] = want_counts(connection, 1, max(acknowledged[1], before[1]), f"{mode}, kill {at} of one of three:")
+        connection.close()
+        time.sleep(chance.random() * 0.3)
+        os.kill(hub.server, signal.SIGKILL) if at % 2 else hub.process.kill()
+        hub.process.wait()
+        acknowledged += [writer.end() for writer in writers[1:]]
+        connection = connect("app.db", tests.program, pool=hub.file)
+        want_sound(connection)
+        for number in (1, 2, 3):
+            what = f"{mode}, kill {at} of all, writer {number}:"
+            commits += max(acknowledged[number] - before[number], 0)
+            before[number] = want_counts(connection, number, max(acknowledged[number], before[number]), what)
+        connection.close()
+    print(f"hub: {tests.chosen.kills} kills, {commits} acknowledged commits, none lost")
+
+
+def main():
+    parser = argparse.ArgumentParser(description=write.__doc__)
+    for name in ("extension", "program", "place", "mode", "synchronous"):
+        parser.add_argument(name)
+    parser.add_argument("writer", type=int)
+    parser.add_argument("seed", type=int)
+    parser.add_argument("--socket", action="store_true")
+    write(parser.parse_args())
+
+
+if __name__ == "__main__":
+    main()
