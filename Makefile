@@ -1,6 +1,7 @@
 # Builds and installs Topzerad, by GNU make.
 #
-## make               the program ztxg, the library for C, and the hub. Its crates are built without a proof, in minutes
+## make               the program ztxg, the library for C, the hub and the extension of SQLite. The program's crates are
+##                    built without a proof, in minutes
 ## make PROVED=1      the same with the program that the prover made; proves all crates first if a source is newer
 ## make install       puts them below PREFIX, /usr/local if not given. DESTDIR is put before all its paths
 ## make uninstall     removes what that put there
@@ -38,6 +39,8 @@ HAS_NBDKIT = $(CC) $(CPPFLAGS) -include nbdkit-plugin.h -E -x c /dev/null > /dev
 HAS_HUB = echo '\#include <sys/socket.h>' | $(CC) $(CPPFLAGS) -D_GNU_SOURCE -dM -E -x c - 2> /dev/null \
 	| grep -q SO_PEERCRED
 HUB = $(BUILD)/hub
+EXTENSION = $(BUILD)/sqlite/topzerad.so
+HAS_SQLITE = $(CC) $(CPPFLAGS) -include sqlite3ext.h -E -x c /dev/null > /dev/null 2>&1
 in_prefix = $(patsubst $(PREFIX)/%,$${prefix}/%,$(1))
 
 RELEASE = topzerad-$(VERSION)-x86_64-linux
@@ -52,9 +55,9 @@ INSTALLED = $(BINDIR)/ztxg $(MANDIR)/man1/ztxg.1 $(MANDIR)/man3/topzerad.3 $(COM
 	$(INCLUDEDIR)/topzerad.h $(addprefix $(LIBDIR)/,libtopzerad.a libtopzerad.so $(SONAME) $(SHARED)) \
 	$(PKGCONFIGDIR)/topzerad.pc $(PLUGINDIR)/nbdkit-topzerad-plugin.so \
 	$(addprefix $(BINDIR)/,ztxg-hub ztxg-ctl) $(addprefix $(MANDIR)/man1/,ztxg-hub.1 ztxg-ctl.1) \
-	$(addprefix $(UNITDIR)/ztxg-hub@.,service socket)
+	$(addprefix $(UNITDIR)/ztxg-hub@.,service socket) $(LIBDIR)/topzerad.so
 
-all: $(ZTXG) library hub plugin
+all: $(ZTXG) library hub plugin extension
 
 ifneq ($(filter-out 0,$(PROVED)),)
 $(BUILD)/ztxg: $(PROVED_ZTXG)
@@ -85,6 +88,10 @@ plugin:
 	@if $(HAS_NBDKIT); then $(MAKE) -C clients/nbdkit OUT=$(abspath $(BUILD))/nbdkit; \
 	else echo "skipped the plugin of nbdkit: nbdkit-plugin.h isn't installed"; fi
 
+extension:
+	@if $(HAS_SQLITE); then $(MAKE) -C clients/sqlite OUT=$(abspath $(BUILD))/sqlite; \
+	else echo "skipped the extension of SQLite: sqlite3ext.h isn't installed"; fi
+
 install: all
 	$(INSTALL) -d $(addprefix $(DESTDIR),$(FOLDERS))
 	$(INSTALL) -m 755 $(ZTXG) $(DESTDIR)$(BINDIR)/ztxg
@@ -106,6 +113,7 @@ install: all
 		$(INSTALL) -d $(DESTDIR)$(UNITDIR) && \
 		$(INSTALL) -m 644 $(HUB)/ztxg-hub@.service clients/hub/ztxg-hub@.socket $(DESTDIR)$(UNITDIR); fi
 	[ ! -f $(PLUGIN) ] || $(INSTALL) -D -m 755 $(PLUGIN) $(DESTDIR)$(PLUGINDIR)/nbdkit-topzerad-plugin.so
+	[ ! -f $(EXTENSION) ] || $(INSTALL) -m 755 $(EXTENSION) $(DESTDIR)$(LIBDIR)/topzerad.so
 	[ -n "$(DESTDIR)" ] || ldconfig 2> /dev/null || :
 
 uninstall:
@@ -149,4 +157,4 @@ help:
 	@sed -n 's/^## \{0,1\}//p' Makefile
 
 .DELETE_ON_ERROR:
-.PHONY: all library hub plugin install uninstall is_proved dist deb check gate clean help
+.PHONY: all library hub plugin extension install uninstall is_proved dist deb check gate clean help

@@ -199,6 +199,7 @@ static int add_piece(file *f) {
         l->size = full;
         f->growth = p->number;
         pthread_mutex_unlock(&p->lock);
+        commits_mark(f);
     }
     return names_end(p, refusal);
 }
@@ -318,6 +319,7 @@ static int write_piece(file *f, const uint8_t *bytes, size_t count, uint64_t at)
     int grows = end > f->layout.size;
     int refusal = gather_room(p, WRITE_HEAD + count + LENGTH_SIZE, 2, write_charge(low, count) + LENGTH_BLOCKS);
     uint32_t object = f->layout.pieces[at / PIECE];
+    commits_mark(f);
     if (!refusal && grows && f->growth != p->number) {
         refusal = gather_length(p, object, low + count);
         f->growth = p->number;
@@ -328,7 +330,9 @@ static int write_piece(file *f, const uint8_t *bytes, size_t count, uint64_t at)
 }
 
 static int write_file(file *f, const uint8_t *bytes, uint64_t count, uint64_t at) {
-    int refusal = freshen(f);
+    int refusal = commits_begin(f), is_end = commits_is_end(f, bytes, count, at);
+    commits_follow(f, 0);
+    if (!refusal) refusal = freshen(f);
     if (!refusal && !f->layout.count) refusal = TOPZERAD_NO_OBJECT;
     while (count && !refusal) {
         uint64_t some = least(least(count, PIECE - at % PIECE), MOST_WRITE);
@@ -338,12 +342,13 @@ static int write_file(file *f, const uint8_t *bytes, uint64_t count, uint64_t at
         at += some;
         count -= some;
     }
-    return refusal;
+    if (!refusal && f->is_checkpoint) refusal = pool_send(f->pool, 0);
+    return refusal || !is_end ? refusal : commits_send(f);
 }
 
 int file_write(file *f, const uint8_t *bytes, uint64_t count, uint64_t at) {
     pthread_mutex_lock(&f->pool->sending);
-    int refusal = write_file(f, bytes, count, at);
+    int refusal = commits_end(f, write_file(f, bytes, count, at));
     pthread_mutex_unlock(&f->pool->sending);
     return refusal;
 }
@@ -355,6 +360,7 @@ static int set_end(file *f, uint64_t size) {
     pool *p = f->pool;
     const layout *l = &f->layout;
     int refusal = gather_room(p, LENGTH_SIZE, 1, LENGTH_BLOCKS);
+    commits_mark(f);
     if (!refusal) refusal = gather_length(p, l->pieces[l->count - 1], size - (uint64_t)(l->count - 1) * PIECE);
     if (refusal) return refusal;
     f->growth = p->number;
@@ -362,30 +368,33 @@ static int set_end(file *f, uint64_t size) {
     return 0;
 }
 
-/* Takes pieces off the end. What is left of them is known after each. */
 static int cut_pieces(file *f, uint32_t left) {
     layout rest = f->layout;
     int refusal = names_begin(f->pool);
     if (!refusal) refusal = drop_pieces(f->pool, &rest, left);
+    commits_mark(f);
     refusal = names_end(f->pool, refusal);
     rest.size = (uint64_t)rest.count * PIECE;
     if (!refusal) set_layout(f, &rest);
     return refusal;
 }
 
+/* A file that is cut to nothing is a journal whose commit ends. */
 static int truncate_file(file *f, uint64_t size) {
     uint64_t pieces = size ? (size - 1) / PIECE + 1 : 1;
-    int refusal = freshen(f);
-    if (refusal) return refusal;
-    if (!f->layout.count) return TOPZERAD_NO_OBJECT;
-    if (pieces < f->layout.count) refusal = cut_pieces(f, (uint32_t)pieces);
+    int refusal = commits_begin(f);
+    commits_follow(f, 0);
+    if (!refusal) refusal = freshen(f);
+    if (!refusal && !f->layout.count) refusal = TOPZERAD_NO_OBJECT;
+    if (!refusal && pieces < f->layout.count) refusal = cut_pieces(f, (uint32_t)pieces);
     if (!refusal) refusal = have_pieces(f, pieces);
-    return refusal || f->layout.size == size ? refusal : set_end(f, size);
+    if (!refusal && f->layout.size != size) refusal = set_end(f, size);
+    return refusal || size ? refusal : commits_send(f);
 }
 
 int file_truncate(file *f, uint64_t size) {
     pthread_mutex_lock(&f->pool->sending);
-    int refusal = truncate_file(f, size);
+    int refusal = commits_end(f, truncate_file(f, size));
     pthread_mutex_unlock(&f->pool->sending);
     return refusal;
 }
@@ -406,14 +415,34 @@ int file_size(file *f, int is_locked, uint64_t *size) {
 
 int file_sync(file *f) {
     pthread_mutex_lock(&f->pool->sending);
-    int refusal = pool_send(f->pool, 1);
+    int refusal = commits_begin(f);
+    commits_follow(f, 1);
+    if (!refusal) refusal = pool_send(f->pool, 1);
+    refusal = commits_end(f, refusal);
     pthread_mutex_unlock(&f->pool->sending);
     return refusal;
 }
 
+int file_commit(file *f) {
+    pthread_mutex_lock(&f->pool->sending);
+    int refusal = commits_begin(f);
+    if (!refusal) refusal = commits_send(f);
+    refusal = commits_end(f, refusal);
+    pthread_mutex_unlock(&f->pool->sending);
+    return refusal;
+}
+
+void file_checkpoint(file *f, int begins) {
+    pthread_mutex_lock(&f->pool->sending);
+    f->is_checkpoint = begins;
+    pthread_mutex_unlock(&f->pool->sending);
+}
+
 int file_settle(file *f) {
     pthread_mutex_lock(&f->pool->sending);
-    int refusal = pool_send(f->pool, 0);
+    int refusal = commits_begin(f);
+    if (!refusal) refusal = pool_send(f->pool, 0);
+    refusal = commits_end(f, refusal);
     pthread_mutex_unlock(&f->pool->sending);
     return refusal;
 }

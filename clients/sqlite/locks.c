@@ -113,8 +113,10 @@ static int lower_shared(handle *h, int level) {
     int code = set_byte(h, level == SQLITE_LOCK_SHARED ? F_RDLCK : F_UNLCK, SHARED);
     if (!code) code = set_byte(h, F_UNLCK, RESERVED);
     if (!code) code = set_byte(h, F_UNLCK, PENDING);
-    if (!code) h->level = level;
-    return code;
+    if (code) return code;
+    h->level = level;
+    h->is_reserved = 0;
+    return SQLITE_OK;
 }
 
 /* After a lock was got, what another program sent before was made: the answer to this says so. */
@@ -132,9 +134,10 @@ static int raise_between(handle *h, int level) {
                                                : share_exclusive(h);
     if (code) return code;
     h->level = level;
-    if (had >= SQLITE_LOCK_RESERVED) return SQLITE_OK;
+    if (h->is_reserved) return SQLITE_OK;
     code = look_again(h);
     if (code) lower_shared(h, had);
+    h->is_reserved = !code && level == SQLITE_LOCK_RESERVED;
     return code;
 }
 

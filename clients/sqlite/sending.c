@@ -98,8 +98,11 @@ static void forget(pool *p) {
 
 int pool_send(pool *p, int durable) {
     if (!p->tx.count) return durable ? flush(p) : 0;
+    uint64_t number = p->number;
     int refusal = pool_commit(p, &p->tx, durable);
     gather_start(p);
-    if (refusal) forget(p);
+    if (!refusal) return 0;
+    commits_lose(p, number, refusal);
+    forget(p);
     return refusal;
 }

@@ -111,6 +111,12 @@ static int control_file(sqlite3_file *given, int number, void *of_number) {
     case SQLITE_FCNTL_HAS_MOVED:
         *(int *)of_number = h->file->is_gone;
         return SQLITE_OK;
+    case SQLITE_FCNTL_SYNC: /* before a sync, and also where `synchronous=OFF` leaves it out */
+        return code_of(file_commit(h->file), SQLITE_IOERR_FSYNC, "write of", h->file->name);
+    case SQLITE_FCNTL_CKPT_START:
+    case SQLITE_FCNTL_CKPT_DONE:
+        file_checkpoint(h->file, number == SQLITE_FCNTL_CKPT_START);
+        return SQLITE_OK;
     case SQLITE_FCNTL_PERSIST_WAL:
         return swap_option(&h->keeps_log, of_number);
     case SQLITE_FCNTL_POWERSAFE_OVERWRITE:

@@ -7,7 +7,8 @@
  *    changes, before a lock is given back, and by a sync. What makes or removes a file is sent at once.
  * 2. A transaction that lets a file grow sets the length of its last piece. So it conflicts with each earlier change of
  *    that piece, and no power failure leaves the new size without what was written before.
- * 3. If a transaction is refused, what it gathered is gone. Then what is known of names and files is read anew.
+ * 3. If a transaction is refused, what it gathered is gone. Then what is known of names and files is read anew. All whose
+ *    bytes it had are told of it. What ends a commit of SQLite sends it, while SQLite can still take it back.
  * 4. If a hub has the pool, other programs change it. A name is looked up anew each time, and a file once a handle of
  *    it gets a lock. Who changes names holds the hub's turn.
  * 5. Threads take locks in this order: that of all pools, a pool's `sending`, its `lock`. Who sends or changes anything
@@ -55,14 +56,24 @@ typedef struct {
     const handle *exclusive[SQLITE_SHM_NLOCK];
 } memory;
 
+/* What ended a commit of a database. */
+typedef enum { OF_NONE, OF_DATABASE, OF_JOURNAL, OF_LOG, ENDS } commit_end;
+
 /* A file that is open. Handles of one file share it. */
 struct file {
     file *next;
     pool *pool;
     uint32_t users;
-    int is_gone;     /* it was removed while it was open */
-    int is_stale;    /* its layout has to be read anew */
-    uint64_t growth; /* the transaction that has set the length of its last piece */
+    int is_gone;        /* it was removed while it was open */
+    int is_stale;       /* its layout has to be read anew */
+    uint64_t growth;    /* the transaction that has set the length of its last piece */
+    /* Of commits (commits.c). */
+    uint64_t gathered;  /* the last transaction that has bytes of the database, its journal or its log */
+    int lost;           /* the refusal of such a one that no one was told of */
+    int is_checkpoint;  /* SQLite takes the log into the database */
+    uint64_t commit_at; /* where the header of the frame is in a log that ends the last commit */
+    commit_end awaited; /* a sync may follow */
+    uint8_t syncs[ENDS]; /* whether one followed the last time */
     layout layout;
     levels levels;
     memory memory;
@@ -114,6 +125,7 @@ struct handle {
     sqlite3_file base; /* has to be the first */
     file *file;
     int level;
+    int is_reserved;   /* a reserved lock was got, so that no one else writes */
     int lock_file;     /* this handle's descriptor of the file of locks, or -1 */
     uint32_t first;    /* the object of the first piece, by which the bytes of its locks are found */
     int has_memory, keeps_log;
@@ -165,6 +177,23 @@ int pool_send(pool *p, int durable);
 /* Commits a transaction, likewise. If the pool has no space, it is tried again after a sync. */
 int pool_commit(pool *p, const topzerad_tx *tx, int durable);
 
+/* commits.c. The caller has `sending`. */
+
+/* Notes that the gathered transaction has bytes of the file. */
+void commits_mark(file *f);
+/* Before a change of a file: the refusal that is to be told of, or 0. */
+int commits_begin(file *f);
+/* After it. Returns the refusal, of which the caller is told. */
+int commits_end(file *f, int refusal);
+/* Notes that what was gathered in a transaction is gone. */
+void commits_lose(pool *p, uint64_t number, int refusal);
+/* Whether a write ends a commit. It has to be asked of each write, in order. */
+int commits_is_end(file *f, const uint8_t *bytes, uint64_t count, uint64_t at);
+/* Sends what a commit wrote. */
+int commits_send(file *f);
+/* After the end of a commit: what follows is a sync, or something else. */
+void commits_follow(file *f, int is_sync);
+
 /* names.c. The caller has `sending`. */
 
 /* Before names are changed, and after: between them no other program changes one. */
@@ -199,6 +228,10 @@ int file_write(file *f, const uint8_t *bytes, uint64_t count, uint64_t at);
 int file_truncate(file *f, uint64_t size);
 int file_size(file *f, int is_locked, uint64_t *size);
 int file_sync(file *f);
+/* Sends what a commit wrote to the database. */
+int file_commit(file *f);
+/* SQLite begins or ends to take the log into the database. Meanwhile each write is sent. */
+void file_checkpoint(file *f, int begins);
 /* Reads the layout anew: another program may have changed it. It is an answer that the hub gave after the lock was got,
  * so what the one before sent was made before it (hub.h, rule 1). */
 int file_refresh(file *f);

@@ -5,7 +5,8 @@
 - The example of `topzerad.3` is compiled as `pkg-config` says, and also with the static library. Both run twice by the
   installed program. The shared library has its soname, and the calls of `topzerad.h` and no others.
 - The installed hub serves a pool to the installed `ztxg-ctl`. Its unit names programs that are there.
-- The plugin of nbdkit is installed if the compiler finds its header, and else skipped by name.
+- The plugin of nbdkit is installed if the compiler finds its header, and else skipped by name. So is the extension of
+  SQLite.
 - `make dist` refuses a program that says `unproved`, and makes no archive. Another program is in the archive of
   `make dist` and in the package of `make deb`. The archive's sums are right, and its library is found wherever it is
   unpacked.
@@ -37,12 +38,16 @@ share/man/man1/ztxg.1 share/man/man3/topzerad.3 bin/ztxg-hub bin/ztxg-ctl share/
 share/man/man1/ztxg-ctl.1 share/topzerad/ztxg-hub@.service share/topzerad/ztxg-hub@.socket""".split()
 COMPLETION = "share/bash-completion/completions/ztxg"
 PLUGIN = "lib64/nbdkit/plugins/nbdkit-topzerad-plugin.so"
+EXTENSION = "lib64/topzerad.so"
 # Another make that runs this check hands its own words on by these.
 OF_MAKE = ("MAKEFLAGS", "MFLAGS", "MAKELEVEL", "DESTDIR", "PREFIX", "BUILD", "ZTXG", "PROVED")
 EXAMPLE = re.compile(r"^\.SH EXAMPLE\n\.nf\n(.*?)^\.fi", re.M | re.S)
 PYTHON = re.compile(r"^```python\n(.*?)^```", re.M | re.S)
-# What the compiler wants to find the header of nbdkit.
-FIND_PLUGIN = ["cc", "-include", "nbdkit-plugin.h", "-E", "-x", "c", "/dev/null"]
+# What is installed if the compiler finds a header: the header, and what needs it.
+IF_FOUND = [
+    ("nbdkit-plugin.h", PLUGIN, "the plugin of nbdkit"),
+    ("sqlite3ext.h", EXTENSION, "the extension of SQLite"),
+]
 
 
 class Installs(Judge):
@@ -102,10 +107,12 @@ class Installs(Judge):
             return False
         shared = f"lib64/libtopzerad.so.{self.version}"
         wanted = {*FILES, COMPLETION, shared, shared.rpartition(".")[0]}
-        if subprocess.run(FIND_PLUGIN, env=self.environment, capture_output=True).returncode:
-            self.skip("the plugin of nbdkit: nbdkit-plugin.h isn't installed")
-        else:
-            wanted.add(PLUGIN)
+        for header, path, what in IF_FOUND:
+            words = ["cc", "-include", header, "-E", "-x", "c", "/dev/null"]
+            if subprocess.run(words, env=self.environment, capture_output=True).returncode:
+                self.skip(f"{what}: {header} isn't installed")
+            else:
+                wanted.add(path)
         found = self.lies(self.root)
         if found != {f"{PREFIX}/{name}" for name in wanted}:
             self.differ("make install leaves", sorted(found))

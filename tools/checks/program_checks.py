@@ -33,6 +33,7 @@ LIMIT = 900
 EXAMPLES = "readme_program"
 # The tests of `clients/check`. Those of the disk take longest, if nbdkit is installed.
 CLIENTS = [["nbdkit"], ["c", "c_with_sanitizers", "python", "rust"], ["hub"], ["hub_with_sanitizers"]]
+CLIENTS += [["sqlite"], ["sqlite_with_sanitizers"]]
 # Words of the scripts that are stopped, and of those whose requests for memory fail.
 STOPPED = [
     "a create over a pool",
