@@ -46,15 +46,13 @@ int atomic_commit(handle *h) {
     pool *p = h->file->pool;
     if (!b || b->is_full) return SQLITE_IOERR_COMMIT_ATOMIC;
     pthread_mutex_lock(&p->sending);
-    int refusal = commits_begin(h->file);
-    if (!refusal) refusal = pool_send(p, 0);
+    int refusal = pool_send(p, 0);
     if (!refusal && b->tx.count) refusal = pool_commit(p, &b->tx, 1);
     if (!refusal) {
         pthread_mutex_lock(&p->lock);
         h->file->layout.size = b->size;
         pthread_mutex_unlock(&p->lock);
     }
-    commits_end(h->file, refusal);
     pthread_mutex_unlock(&p->sending);
     if (!refusal) atomic_give_up(h);
     return code_of(refusal, SQLITE_IOERR_COMMIT_ATOMIC, "atomic write of", h->file->name);

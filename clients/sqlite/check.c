@@ -102,7 +102,6 @@ static void want_short(sqlite3_file *file, int there, int count, sqlite3_int64 a
 }
 
 static void read_and_write(void) {
-    sqlite3_file *held = open_file("held.db", MAKES); /* the pool stays open */
     WANT(open_code("a.db", DATABASE) == SQLITE_CANTOPEN && !is_there("a.db", SQLITE_ACCESS_EXISTS));
     sqlite3_file *file = open_file("a.db", MAKES);
     WANT(size_of(file) == 0 && !is_there("a.db", SQLITE_ACCESS_EXISTS) && is_there("a.db", SQLITE_ACCESS_READWRITE));
@@ -128,16 +127,20 @@ static void read_and_write(void) {
     file = open_file("a.db", DATABASE);
     WANT(size_of(file) == 20);
     close_file(file);
-    close_file(held);
-    file = open_file("a.db", DATABASE);
+}
+
+/* What was closed is there when the pool is opened again. */
+static void open_again(void) {
+    sqlite3_file *file = open_file("a.db", DATABASE);
     WANT(size_of(file) == 20);
     want_short(file, 10, 100, 0);
     WANT(!memcmp(back, bytes, 10));
+    WANT(delete_file("a.db", 1) == SQLITE_OK);
     close_file(file);
 }
 
 static void remove_files(void) {
-    sqlite3_file *held = open_file("held.db", MAKES), *file = open_file("b.db", MAKES);
+    sqlite3_file *file = open_file("b.db", MAKES);
     int has_moved = 0;
     put(file, bytes, PAGE, 0);
     WANT(file->pMethods->xFileControl(file, SQLITE_FCNTL_HAS_MOVED, &has_moved) == SQLITE_OK && !has_moved);
@@ -151,8 +154,6 @@ static void remove_files(void) {
     want_bytes(other, bytes, 10, 0);
     close_file(other);
     WANT(delete_file("b.db", 1) == SQLITE_OK && !is_there("b.db", SQLITE_ACCESS_READWRITE));
-    close_file(held);
-    WANT(delete_file("a.db", 1) == SQLITE_OK && delete_file("held.db", 1) == SQLITE_OK);
 }
 
 /* Files of several pieces, with holes. */
@@ -296,7 +297,7 @@ static int open_by_uri(const char *uri) {
 /* Names and options that are refused, and two ways to say one name. */
 static void refuse_names(void) {
     const char *const bad[] = {"a%23b",          "a/b",        "a%01",     "%ff",  "",
-                               "/x/a",           "a?dirty=1",  "a?dirty=x", "a?cache=4095", "a?cache=17M",
+                               "/x/a",           "a?dirty=1",  "a?dirty=x", "a?dirty=1048577",  "a?pool_cache=4095", "a?pool_cache=17M",
                                "a?wait=-1",      "a?wait=1h",  "a?timeout=86401"};
     char uri[8192], longest[300];
     for (size_t i = 0; i < sizeof bad / sizeof *bad; i++) {
@@ -313,10 +314,12 @@ static void refuse_names(void) {
     snprintf(uri, sizeof uri, "file:%s?vfs=topzerad&pool=%s&program=%s", longest, place, program);
     WANT(open_by_uri(uri) == SQLITE_CANTOPEN);
     snprintf(uri, sizeof uri, "file:%s?vfs=topzerad&pool=%s&program=%s", longest + 1, place, program);
-    WANT(open_by_uri(uri) == SQLITE_OK && delete_file(longest + 1, 0) == SQLITE_OK);
+    WANT(open_by_uri(uri) == SQLITE_OK);
     snprintf(uri, sizeof uri, "file:%s/f.db?vfs=topzerad&program=%s", place, program);
-    WANT(open_by_uri(uri) == SQLITE_OK && is_there("f.db", SQLITE_ACCESS_READWRITE));
-    WANT(delete_file("f.db", 1) == SQLITE_OK);
+    WANT(open_by_uri(uri) == SQLITE_OK);
+    sqlite3_file *file = open_file("f.db", DATABASE);
+    WANT(delete_file(longest + 1, 0) == SQLITE_OK && delete_file("f.db", 1) == SQLITE_OK);
+    close_file(file);
 }
 
 int main(int count, char **words) {
@@ -332,12 +335,18 @@ int main(int count, char **words) {
     if (sqlite3_load_extension(db, words[1], NULL, &message)) fprintf(stderr, "%s\n", message);
     vfs = sqlite3_vfs_find("topzerad");
     WANT(vfs && vfs != sqlite3_vfs_find(NULL));
+    sqlite3_file *held = open_file("held.db", MAKES); /* the pool stays open */
     read_and_write();
+    close_file(held);
+    open_again();
+    held = open_file("held.db", MAKES);
     remove_files();
     use_pieces();
     take_locks();
     write_atomically();
     share_memory();
+    WANT(delete_file("held.db", 1) == SQLITE_OK);
+    close_file(held);
     refuse_names();
     WANT(sqlite3_close(db) == SQLITE_OK);
     puts("check: the calls of the VFS are right");

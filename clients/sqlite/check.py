@@ -15,7 +15,7 @@ import time
 from databases import (
     MIB, TOP, Fault, Hub, Pool, Tests, connect, load, names_in, new_pool, one, set_mode, sqlite3, uri, want, want_sound,
 )  # fmt: skip
-import kills
+import writers
 
 ROLLBACK_MODES = ["delete", "truncate", "persist", "memory", "off"]
 
@@ -186,35 +186,45 @@ def a_large_database(tests):
 
 
 def a_full_pool(tests):
-    """SQLITE_FULL takes back a transaction, and no more. After rows were removed there is room again."""
+    """SQLITE_FULL takes back a transaction or a statement, and no more. Once there is room, all goes on."""
     if tests.program == str(TOP / "clients/stand_in"):
         return "the stand-in has room for all"
-    for mode in ("delete", "truncate", "wal"):
+    for mode in ("delete", "truncate", "persist", "wal"):
         pool = new_pool(tests, 16 * MIB, f"{mode}.pool")
+        with Pool(tests.program, str(pool)) as opened:
+            opened.put("ballast", bytes(4 * MIB))
         connection = connect("app.db", tests.program, pool=pool)
         set_mode(connection, mode)
         connection.execute("create table t(a integer primary key, b)")
-        rows = 0
-        try:
-            for rows in range(1000):
-                connection.execute("insert into t values (?, zeroblob(100000))", (rows,))
-        except sqlite3.OperationalError as error:
-            want("full" in str(error), mode, "the error is", error)
-        want(30 < rows < 999, mode, rows, "rows fill the pool")
-        want(one(connection, "select count(*) from t") == rows, mode, "rows")
+
+        def fill(statement, values=((),)):
+            try:
+                for row in values:
+                    connection.execute(statement, row)
+            except sqlite3.OperationalError as error:
+                want("full" in str(error), mode, "the error is", error)
+            else:
+                raise Fault(f"{mode}: {statement} finds room")
+
+        fill("insert into t values (?, zeroblob(100000))", ((at,) for at in range(1000)))
+        rows = one(connection, "select count(*) from t")
+        want(rows > 20 and rows == one(connection, "select max(a) + 1 from t"), mode, "rows", rows)
+        want_sound(connection)
+        connection.execute("begin")
+        fill("update t set b=zeroblob(99000)")
+        if connection.in_transaction:  # the statement alone was taken back
+            connection.execute("commit")
+        want(one(connection, "select count(*) from t where length(b)=100000") == rows, mode, "rows after an update")
         want_sound(connection)
         connection.close()
+        with Pool(tests.program, str(pool), wait=60) as opened:
+            opened.remove("ballast")
         connection = connect("app.db", tests.program, pool=pool)
-        want(one(connection, "select count(*) from t") == rows, mode, "rows after it was opened again")
-        want_sound(connection)
-        try:
-            connection.execute("update t set b=zeroblob(99000)")
-        except sqlite3.OperationalError as error:
-            want("full" in str(error), mode, "the error is", error)
-        want_sound(connection)
-        connection.execute("delete from t where a=1")
+        want(one(connection, "select count(*) from t where length(b)=100000") == rows, mode, "rows after a close")
+        connection.execute("delete from t where a<3")
         connection.execute("insert into t values (1, zeroblob(50000))")
-        want(one(connection, "select count(*) from t") == rows, mode, "rows after a removal")
+        want(one(connection, "select count(*) from t") == rows - 2, mode, "rows after a removal")
+        want_sound(connection)
         connection.close()
 
 
@@ -254,7 +264,7 @@ def several_databases(tests):
     connection = connect("main.db", tests.program, pool=pools[0])
     connection.execute("attach ? as other", (uri("other.db", tests.program, pool=pools[0]),))
     connection.execute("attach ? as third", (uri("third.db", tests.program, pool=pools[1]),))
-    connection.execute("attach ? as plain", (str(tests.folder / "plain.db"),))
+    connection.execute("attach ? as plain", (f"file:{tests.folder}/plain.db?vfs=unix",))
     databases = ["main", "other", "third", "plain"]
     for name in databases:
         connection.execute(f"create table {name}.t(a)")
@@ -279,20 +289,20 @@ def programs_share_a_database(tests):
     for mode in [("delete", "full"), ("truncate", "full"), ("persist", "normal")]:
         hub = Hub(tests)
         connection = connect("app.db", tests.program, socket=hub.path)
-        kills.make(connection, 2)
+        writers.make(connection, 2)
         want(one(connection, "pragma journal_mode=wal") == "delete", "a write-ahead log")
-        writers = [kills.Writer(tests, hub.path, mode, number, socket=True) for number in (1, 2)]
+        two = [writers.Writer(tests, hub.path, mode, number, socket=True) for number in (1, 2)]
         time.sleep(2)
         for _ in range(20):
             connection.execute("begin")
             counts = [row[0] for row in connection.execute("select count from counts order by writer")]
-            rows = [row[0] for row in connection.execute("select count(*) from rows group by writer order by writer")]
+            rows = [one(connection, "select count(*) from rows where writer=?", number) for number in (1, 2)]
             want(counts == rows, mode, "counts", counts, "rows", rows)
             connection.execute("commit")
-        for writer in writers:
+        for writer in two:
             writer.kill("writer")
-        for number, writer in enumerate(writers, 1):
-            count = kills.want_counts(connection, number, writer.end(), f"{mode}, writer {number}:")
+        for number, writer in enumerate(two, 1):
+            count = writers.want_counts(connection, number, writer.end(), f"{mode}, writer {number}:")
             want(count > 3, mode, "writer", number, "came to", count)
         want_sound(connection)
         connection.close()
@@ -378,8 +388,8 @@ TESTS = [
     several_databases,
     programs_share_a_database,
     a_mixed_load,
-    kills.kills,
-    kills.kills_beside_others,
+    writers.kills,
+    writers.kills_beside_others,
     the_tests_of_sqlite,
 ]
 

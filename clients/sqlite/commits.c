@@ -1,8 +1,5 @@
 /* How SQLite ends a commit. What it wrote is sent then, and not only gathered: a refusal is told of while SQLite can
- * still take the commit back, and the end of this process loses no commit.
- *
- * A refused transaction may have what several connections wrote. One of them is told at once. The others are told by the
- * next write, truncation or sync of their database, its journal or its log. */
+ * still take the commit back, and the end of this process loses no commit. */
 #include "vfs.h"
 
 #include <string.h>
@@ -18,7 +15,7 @@ static int ends_with(const file *f, const char *suffix) {
     return count > size && !strcmp(f->name + count - size, suffix);
 }
 
-/* The database of a journal or a log, if it is open; else the file itself. The caller has `sending`. */
+/* The database of a journal or a log, if it is open; else the file itself. */
 static file *owner_of(file *f) {
     const char *suffix = ends_with(f, "-journal") ? "-journal" : ends_with(f, "-wal") ? "-wal" : NULL;
     if (!suffix) return f;
@@ -26,25 +23,6 @@ static file *owner_of(file *f) {
     for (file *other = f->pool->files; other; other = other->next)
         if (!other->is_gone && strlen(other->name) == count && !memcmp(other->name, f->name, count)) return other;
     return f;
-}
-
-void commits_mark(file *f) { owner_of(f)->gathered = f->pool->number; }
-
-int commits_begin(file *f) {
-    file *owner = owner_of(f);
-    int lost = owner->lost;
-    owner->lost = 0;
-    return lost;
-}
-
-int commits_end(file *f, int refusal) {
-    if (refusal) owner_of(f)->lost = 0;
-    return refusal;
-}
-
-void commits_lose(pool *p, uint64_t number, int refusal) {
-    for (file *f = p->files; f; f = f->next)
-        if (f->gathered == number) f->lost = refusal;
 }
 
 /* Whether a write ends a commit in a log. A header that is written once more has no page behind. */
@@ -71,7 +49,6 @@ int commits_send(file *f) {
     return pool_send(f->pool, owner->syncs[end]);
 }
 
-/* Notes whether a sync has followed. */
 void commits_follow(file *f, int is_sync) {
     file *owner = owner_of(f);
     if (owner->awaited != OF_NONE) owner->syncs[owner->awaited] = (uint8_t)is_sync;

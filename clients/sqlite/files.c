@@ -7,6 +7,11 @@ SQLITE_EXTENSION_INIT3
 /* What one operation writes at most. A page of up to 32 KiB is written by one, and so whole or not at all. */
 enum { MOST_WRITE = 61440, WRITE_HEAD = 17, LENGTH_SIZE = 13, LENGTH_BLOCKS = 5 };
 
+static demand grown(demand wanted) {
+    wanted.grows = 1;
+    return wanted;
+}
+
 /* The name of a piece, from 0 on. */
 static void name_piece(char name[NAME_ROOM], const char *file, uint32_t piece) {
     if (piece)
@@ -101,6 +106,7 @@ static int make(pool *p, const char *name, layout *made) {
     if (refusal) return refusal;
     refusal = names_begin(p);
     if (!refusal) refusal = read_layout(p, name, made);
+    if (!refusal && !made->count) refusal = gather_room(p, grown(NAME_DEMAND));
     if (!refusal && !made->count) refusal = names_add(p, name, &object);
     if (!refusal && object) *made = (layout){.pieces = {object}, .count = 1};
     refusal = names_end(p, refusal);
@@ -187,10 +193,14 @@ static int add_piece(file *f) {
     char name[NAME_ROOM];
     uint32_t object = 0;
     uint64_t full = (uint64_t)l->count * PIECE;
+    demand wanted = grown(NAME_DEMAND);
+    wanted.bytes += LENGTH_SIZE;
+    wanted.operations++;
+    wanted.charge += LENGTH_BLOCKS;
     if (l->count == MOST_PIECES) return TOPZERAD_NO_SPACE;
     name_piece(name, f->name, l->count);
     int refusal = names_begin(p);
-    if (!refusal) refusal = gather_room(p, NAME_BYTES + LENGTH_SIZE, NAME_OPERATIONS + 1, NAME_CHARGE + LENGTH_BLOCKS);
+    if (!refusal) refusal = gather_room(p, wanted);
     if (!refusal) refusal = gather_length(p, l->pieces[l->count - 1], PIECE);
     if (!refusal) refusal = names_add(p, name, &object);
     if (!refusal) {
@@ -199,8 +209,7 @@ static int add_piece(file *f) {
         l->size = full;
         f->growth = p->number;
         pthread_mutex_unlock(&p->lock);
-        commits_mark(f);
-    }
+        }
     return names_end(p, refusal);
 }
 
@@ -215,7 +224,7 @@ static int have_pieces(file *f, uint64_t count) {
 static int drop_pieces(pool *p, layout *l, uint32_t left) {
     int refusal = 0;
     while (l->count > left && !refusal) {
-        refusal = gather_room(p, NAME_BYTES, NAME_OPERATIONS, NAME_CHARGE);
+        refusal = gather_room(p, NAME_DEMAND);
         if (!refusal) refusal = names_remove(p, l->pieces[l->count - 1]);
         if (!refusal) l->count--;
     }
@@ -317,9 +326,9 @@ static int write_piece(file *f, const uint8_t *bytes, size_t count, uint64_t at)
     pool *p = f->pool;
     uint64_t low = at % PIECE, end = at + count;
     int grows = end > f->layout.size;
-    int refusal = gather_room(p, WRITE_HEAD + count + LENGTH_SIZE, 2, write_charge(low, count) + LENGTH_BLOCKS);
+    demand wanted = {WRITE_HEAD + count + LENGTH_SIZE, 2, write_charge(low, count) + LENGTH_BLOCKS, grows};
+    int refusal = gather_room(p, wanted);
     uint32_t object = f->layout.pieces[at / PIECE];
-    commits_mark(f);
     if (!refusal && grows && f->growth != p->number) {
         refusal = gather_length(p, object, low + count);
         f->growth = p->number;
@@ -330,9 +339,8 @@ static int write_piece(file *f, const uint8_t *bytes, size_t count, uint64_t at)
 }
 
 static int write_file(file *f, const uint8_t *bytes, uint64_t count, uint64_t at) {
-    int refusal = commits_begin(f), is_end = commits_is_end(f, bytes, count, at);
+    int refusal = freshen(f), is_end = commits_is_end(f, bytes, count, at);
     commits_follow(f, 0);
-    if (!refusal) refusal = freshen(f);
     if (!refusal && !f->layout.count) refusal = TOPZERAD_NO_OBJECT;
     while (count && !refusal) {
         uint64_t some = least(least(count, PIECE - at % PIECE), MOST_WRITE);
@@ -342,13 +350,13 @@ static int write_file(file *f, const uint8_t *bytes, uint64_t count, uint64_t at
         at += some;
         count -= some;
     }
-    if (!refusal && f->is_checkpoint) refusal = pool_send(f->pool, 0);
+    if (!refusal && (f->is_checkpoint || f->pool->is_shared)) refusal = pool_send(f->pool, 0);
     return refusal || !is_end ? refusal : commits_send(f);
 }
 
 int file_write(file *f, const uint8_t *bytes, uint64_t count, uint64_t at) {
     pthread_mutex_lock(&f->pool->sending);
-    int refusal = commits_end(f, write_file(f, bytes, count, at));
+    int refusal = write_file(f, bytes, count, at);
     pthread_mutex_unlock(&f->pool->sending);
     return refusal;
 }
@@ -359,8 +367,7 @@ int file_write(file *f, const uint8_t *bytes, uint64_t count, uint64_t at) {
 static int set_end(file *f, uint64_t size) {
     pool *p = f->pool;
     const layout *l = &f->layout;
-    int refusal = gather_room(p, LENGTH_SIZE, 1, LENGTH_BLOCKS);
-    commits_mark(f);
+    int refusal = gather_room(p, (demand){LENGTH_SIZE, 1, LENGTH_BLOCKS, size > l->size});
     if (!refusal) refusal = gather_length(p, l->pieces[l->count - 1], size - (uint64_t)(l->count - 1) * PIECE);
     if (refusal) return refusal;
     f->growth = p->number;
@@ -372,29 +379,27 @@ static int cut_pieces(file *f, uint32_t left) {
     layout rest = f->layout;
     int refusal = names_begin(f->pool);
     if (!refusal) refusal = drop_pieces(f->pool, &rest, left);
-    commits_mark(f);
-    refusal = names_end(f->pool, refusal);
-    rest.size = (uint64_t)rest.count * PIECE;
-    if (!refusal) set_layout(f, &rest);
-    return refusal;
+    if (rest.count < f->layout.count) rest.size = (uint64_t)rest.count * PIECE;
+    set_layout(f, &rest);
+    return names_end(f->pool, refusal);
 }
 
 /* A file that is cut to nothing is a journal whose commit ends. */
 static int truncate_file(file *f, uint64_t size) {
     uint64_t pieces = size ? (size - 1) / PIECE + 1 : 1;
-    int refusal = commits_begin(f);
+    int refusal = freshen(f);
     commits_follow(f, 0);
-    if (!refusal) refusal = freshen(f);
     if (!refusal && !f->layout.count) refusal = TOPZERAD_NO_OBJECT;
     if (!refusal && pieces < f->layout.count) refusal = cut_pieces(f, (uint32_t)pieces);
     if (!refusal) refusal = have_pieces(f, pieces);
     if (!refusal && f->layout.size != size) refusal = set_end(f, size);
+    if (!refusal && f->pool->is_shared) refusal = pool_send(f->pool, 0);
     return refusal || size ? refusal : commits_send(f);
 }
 
 int file_truncate(file *f, uint64_t size) {
     pthread_mutex_lock(&f->pool->sending);
-    int refusal = commits_end(f, truncate_file(f, size));
+    int refusal = truncate_file(f, size);
     pthread_mutex_unlock(&f->pool->sending);
     return refusal;
 }
@@ -415,19 +420,15 @@ int file_size(file *f, int is_locked, uint64_t *size) {
 
 int file_sync(file *f) {
     pthread_mutex_lock(&f->pool->sending);
-    int refusal = commits_begin(f);
     commits_follow(f, 1);
-    if (!refusal) refusal = pool_send(f->pool, 1);
-    refusal = commits_end(f, refusal);
+    int refusal = pool_send(f->pool, 1);
     pthread_mutex_unlock(&f->pool->sending);
     return refusal;
 }
 
 int file_commit(file *f) {
     pthread_mutex_lock(&f->pool->sending);
-    int refusal = commits_begin(f);
-    if (!refusal) refusal = commits_send(f);
-    refusal = commits_end(f, refusal);
+    int refusal = commits_send(f);
     pthread_mutex_unlock(&f->pool->sending);
     return refusal;
 }
@@ -440,9 +441,7 @@ void file_checkpoint(file *f, int begins) {
 
 int file_settle(file *f) {
     pthread_mutex_lock(&f->pool->sending);
-    int refusal = commits_begin(f);
-    if (!refusal) refusal = pool_send(f->pool, 0);
-    refusal = commits_end(f, refusal);
+    int refusal = pool_send(f->pool, 0);
     pthread_mutex_unlock(&f->pool->sending);
     return refusal;
 }

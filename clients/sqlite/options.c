@@ -1,4 +1,4 @@
-/* The options in the URI of a database, as `cache=16M`. */
+/* The options in the URI of a database, as `dirty=16M`. SQLite itself has one by the name `cache`. */
 #include "vfs.h"
 
 #include <stdlib.h>
@@ -25,13 +25,13 @@ static uint64_t bytes_of(const char *word) {
 }
 
 /* Reads an option of bytes, if it is there. */
-static int read_bytes(const char *uri, const char *option, uint64_t low, uint64_t high, uint64_t step, uint64_t *value) {
+static int read_bytes(const char *uri, const char *option, uint64_t low, uint64_t high, uint64_t *value) {
     const char *word = sqlite3_uri_parameter(uri, option);
     if (!word) return SQLITE_OK;
     *value = bytes_of(word);
-    if (*value >= low && *value <= high && *value % step == 0) return SQLITE_OK;
-    return tell(SQLITE_CANTOPEN, "%s=%s: %lld to %lld bytes, a multiple of %lld", option, word, (sqlite3_int64)low,
-                (sqlite3_int64)high, (sqlite3_int64)step);
+    if (*value >= low && *value <= high && *value % BLOCK == 0) return SQLITE_OK;
+    return tell(SQLITE_CANTOPEN, "%s=%s: %lld to %lld bytes, a multiple of %d", option, word, (sqlite3_int64)low,
+                (sqlite3_int64)high, BLOCK);
 }
 
 /* Reads an option of seconds, if it is there. */
@@ -50,8 +50,8 @@ int read_options(const char *uri, const char **program, topzerad_options *option
     const char *word = uri ? sqlite3_uri_parameter(uri, "program") : NULL;
     *program = word ? word : "ztxg";
     *options = (topzerad_options){0};
-    int code = uri ? read_bytes(uri, "cache", BLOCK, MOST_CACHE, BLOCK, &cache) : SQLITE_OK;
-    if (!code && uri) code = read_bytes(uri, "dirty", LEAST_DIRTY, MOST_DIRTY, 1, &options->dirty);
+    int code = uri ? read_bytes(uri, "pool_cache", BLOCK, MOST_CACHE, &cache) : SQLITE_OK;
+    if (!code && uri) code = read_bytes(uri, "dirty", LEAST_DIRTY, MOST_DIRTY, &options->dirty);
     if (!code && uri) code = read_seconds(uri, "wait", &wait);
     if (!code && uri) code = read_seconds(uri, "timeout", &options->timeout);
     options->cache = (uint32_t)(cache / BLOCK);

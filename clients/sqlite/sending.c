@@ -4,6 +4,8 @@
 /* A data block of a pool has RECORD bytes, and an indirect one leads to STRIP bytes. */
 enum { RECORD = 4032, STRIP = 84 * RECORD };
 enum { CREATE_CHARGE = 2, LENGTH_CHARGE = 5, WRITE_CHARGE = 3 };
+/* The blocks that are kept for taking changes back, and those that the log of one transaction takes at most. */
+enum { RESERVE = 128, LOG_BLOCKS = 64 };
 
 static uint64_t touched(uint64_t unit, uint64_t at, uint64_t count) { return (at + count - 1) / unit - at / unit + 1; }
 
@@ -20,10 +22,31 @@ void gather_start(pool *p) {
     pthread_mutex_unlock(&p->lock);
 }
 
-int gather_room(pool *p, size_t bytes, uint32_t operations, uint64_t charge) {
-    int fits = p->tx.length + bytes <= p->tx.room && p->tx.count + operations <= MOST_OPERATIONS &&
-               p->charge + charge <= p->most_charge;
-    return fits || !p->tx.count ? 0 : pool_send(p, 0);
+/* Asks how many blocks the pool has. */
+static int ask_space(pool *p) {
+    topzerad_status status;
+    int refusal = topzerad_state(&p->handle, &status);
+    p->available = refusal ? 0 : status.available;
+    return refusal;
+}
+
+/* Whether the pool has space for what is gathered and so many blocks more. A sync gives back what was replaced. */
+static int have_space(pool *p, uint64_t blocks) {
+    if (p->charge + blocks <= p->available) return 0;
+    int refusal = ask_space(p);
+    if (refusal || p->charge + blocks <= p->available) return refusal;
+    refusal = pool_send(p, 0);
+    if (!refusal) refusal = topzerad_sync(&p->handle, NULL);
+    if (!refusal) refusal = ask_space(p);
+    return refusal || blocks <= p->available ? refusal : TOPZERAD_NO_SPACE;
+}
+
+int gather_room(pool *p, demand wanted) {
+    int fits = p->tx.length + wanted.bytes <= p->tx.room && p->tx.count + wanted.operations <= MOST_OPERATIONS &&
+               p->charge + wanted.charge <= p->most_charge;
+    int refusal = fits || !p->tx.count ? 0 : pool_send(p, 0);
+    if (refusal || p->is_shared) return refusal;
+    return have_space(p, wanted.charge + (wanted.grows ? RESERVE : 0));
 }
 
 /* After an operation was added: notes the bytes that it changes. Those behind others are joined. */
@@ -98,11 +121,10 @@ static void forget(pool *p) {
 
 int pool_send(pool *p, int durable) {
     if (!p->tx.count) return durable ? flush(p) : 0;
-    uint64_t number = p->number;
     int refusal = pool_commit(p, &p->tx, durable);
+    if (refusal && !p->is_shared) return refusal;
+    p->available -= least(p->available, p->charge + LOG_BLOCKS);
     gather_start(p);
-    if (!refusal) return 0;
-    commits_lose(p, number, refusal);
-    forget(p);
+    if (refusal) forget(p);
     return refusal;
 }

@@ -7,10 +7,12 @@
  *    changes, before a lock is given back, and by a sync. What makes or removes a file is sent at once.
  * 2. A transaction that lets a file grow sets the length of its last piece. So it conflicts with each earlier change of
  *    that piece, and no power failure leaves the new size without what was written before.
- * 3. If a transaction is refused, what it gathered is gone. Then what is known of names and files is read anew. All whose
- *    bytes it had are told of it. What ends a commit of SQLite sends it, while SQLite can still take it back.
- * 4. If a hub has the pool, other programs change it. A name is looked up anew each time, and a file once a handle of
- *    it gets a lock. Who changes names holds the hub's turn.
+ * 3. Before something is gathered the pool has the space for it, so that what SQLite was told is written can be sent. If
+ *    it is refused nevertheless, as for want of memory, it is kept and sent again before anything else. What ends a
+ *    commit of SQLite sends it, while SQLite can still take it back.
+ * 4. If a hub has the pool, other programs change it and take its space. Nothing gathers longer than for one call, which
+ *    is told of a refusal. A name is looked up anew each time, and a file once a handle of it gets a lock. Who changes
+ *    names holds the hub's turn.
  * 5. Threads take locks in this order: that of all pools, a pool's `sending`, its `lock`. Who sends or changes anything
  *    has `sending`. Who looks at files, or changes what is known of them, has `lock`, and calls nothing that waits. */
 #ifndef TOPZERAD_VFS_H
@@ -68,8 +70,6 @@ struct file {
     int is_stale;       /* its layout has to be read anew */
     uint64_t growth;    /* the transaction that has set the length of its last piece */
     /* Of commits (commits.c). */
-    uint64_t gathered;  /* the last transaction that has bytes of the database, its journal or its log */
-    int lost;           /* the refusal of such a one that no one was told of */
     int is_checkpoint;  /* SQLite takes the log into the database */
     uint64_t commit_at; /* where the header of the frame is in a log that ends the last commit */
     commit_end awaited; /* a sync may follow */
@@ -104,6 +104,7 @@ struct pool {
     topzerad_tx tx;
     uint64_t number;        /* of the transaction, from 1 on */
     uint64_t charge, most_charge; /* blocks that it is charged */
+    uint64_t available;     /* blocks that the pool has for it at least */
     span spans[MOST_OPERATIONS];
     uint32_t span_count;
     int is_dirty;           /* something that was sent isn't durable */
@@ -162,8 +163,15 @@ int pool_release(pool *p);
 
 /* Begins an empty transaction. */
 void gather_start(pool *p);
-/* Makes room for operations: sends what was gathered, if they wouldn't fit. */
-int gather_room(pool *p, size_t bytes, uint32_t operations, uint64_t charge);
+/* Operations that are to be gathered together. */
+typedef struct {
+    size_t bytes;
+    uint32_t operations;
+    uint64_t charge;
+    int grows; /* they take space for good; others may use what is kept for taking changes back */
+} demand;
+/* Makes room for operations: sends what was gathered, if they wouldn't fit. TOPZERAD_NO_SPACE if the pool has none. */
+int gather_room(pool *p, demand wanted);
 int gather_create(pool *p, uint32_t object);
 int gather_remove(pool *p, uint32_t object);
 int gather_length(pool *p, uint32_t object, uint64_t length);
@@ -179,14 +187,6 @@ int pool_commit(pool *p, const topzerad_tx *tx, int durable);
 
 /* commits.c. The caller has `sending`. */
 
-/* Notes that the gathered transaction has bytes of the file. */
-void commits_mark(file *f);
-/* Before a change of a file: the refusal that is to be told of, or 0. */
-int commits_begin(file *f);
-/* After it. Returns the refusal, of which the caller is told. */
-int commits_end(file *f, int refusal);
-/* Notes that what was gathered in a transaction is gone. */
-void commits_lose(pool *p, uint64_t number, int refusal);
 /* Whether a write ends a commit. It has to be asked of each write, in order. */
 int commits_is_end(file *f, const uint8_t *bytes, uint64_t count, uint64_t at);
 /* Sends what a commit wrote. */
@@ -203,8 +203,8 @@ int names_end(pool *p, int refusal);
 int names_load(pool *p);
 /* The object of a name, or 0. */
 uint32_t names_find(const pool *p, const char *name);
-/* The bytes, operations and blocks of the next two, which are to be one transaction with what else is gathered. */
-enum { NAME_BYTES = 556, NAME_OPERATIONS = 4, NAME_CHARGE = 17 };
+/* What the next two need, which are to be one transaction with what else is gathered. */
+static const demand NAME_DEMAND = {.bytes = 556, .operations = 4, .charge = 17};
 /* Gathers that an object of that name is made. */
 int names_add(pool *p, const char *name, uint32_t *object);
 /* Gathers that an object and its name are removed. */

@@ -34,13 +34,15 @@ def write(words):
     """Counts up until it is killed, and tells each count that was acknowledged."""
     load(words.extension)
     where = {"socket": words.place} if words.socket else {"pool": words.place}
-    connection = connect("app.db", words.program, **where)
-    connection.execute("pragma cache_size=20")
-    set_mode(connection, words.mode, words.synchronous)
     chance = random.Random(words.seed)
     try:
+        connection = connect("app.db", words.program, **where)
+        connection.execute("pragma cache_size=20")
+        set_mode(connection, words.mode, words.synchronous)
         while True:
             print(count_up(connection, words.writer, chance), flush=True)
+            if words.socket:
+                time.sleep(chance.random() * 0.05)  # others get their turn
     except sqlite3.OperationalError as error:
         print("error:", error, flush=True)
 
@@ -128,7 +130,7 @@ def kills_beside_others(tests):
         folder = hub.folder
         connection.close()
         writers = [Writer(tests, hub.path, mode, number, socket=True) for number in (1, 2, 3)]
-        time.sleep(0.4 + chance.random() * 0.6)
+        time.sleep(0.6 + chance.random())
         writers[0].kill("writer")
         acknowledged = [0, writers[0].end()]
         connection = connect("app.db", tests.program, socket=hub.path)
