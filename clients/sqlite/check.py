@@ -17,6 +17,7 @@ from databases import (
 )  # fmt: skip
 import writers
 
+STAND_IN = str(TOP / "clients/stand_in")
 ROLLBACK_MODES = ["delete", "truncate", "persist", "memory", "off"]
 
 
@@ -88,6 +89,8 @@ def journal_modes(tests):
 
 
 def page_sizes(tests):
+    if tests.program == STAND_IN:
+        return "the stand-in is slow with large objects"
     pool = new_pool(tests, 128 * MIB)
     for at in range(9, 17):
         for mode in ("delete", "wal"):
@@ -164,6 +167,8 @@ def threads(tests):
 
 def a_large_database(tests):
     """A database of several objects. It becomes small again by a vacuum."""
+    if tests.program == STAND_IN:
+        return "the stand-in is slow with large objects"
     pool = new_pool(tests, 384 * MIB)
     connection = connect("app.db", tests.program, pool=pool)
     connection.execute("pragma synchronous=normal")
@@ -187,7 +192,7 @@ def a_large_database(tests):
 
 def a_full_pool(tests):
     """SQLITE_FULL takes back a transaction or a statement, and no more. Once there is room, all goes on."""
-    if tests.program == str(TOP / "clients/stand_in"):
+    if tests.program == STAND_IN:
         return "the stand-in has room for all"
     for mode in ("delete", "truncate", "persist", "wal"):
         pool = new_pool(tests, 16 * MIB, f"{mode}.pool")
@@ -413,7 +418,7 @@ def run_test(test, chosen):
 def main():
     parser = argparse.ArgumentParser(description=__doc__.splitlines()[0])
     parser.add_argument("--bin", type=lambda word: pathlib.Path(word).resolve(), required=True)
-    parser.add_argument("--program", default=str(TOP / "clients/stand_in"))
+    parser.add_argument("--program", default=STAND_IN)
     parser.add_argument("--kills", type=int, default=20, help="at so many moments processes are killed (20)")
     parser.add_argument("--seed", type=int, default=1)
     parser.add_argument("--without", nargs="*", default=[], help="tests that aren't run")
