@@ -322,9 +322,80 @@ static void refuse_names(void) {
     close_file(file);
 }
 
+/* Memory: the request that is refused, counted down; none below 0. */
+static sqlite3_mem_methods memory;
+static int refused = -1;
+
+static int is_refused(void) { return refused >= 0 && refused-- == 0; }
+
+static void *take(int size) { return is_refused() ? NULL : memory.xMalloc(size); }
+
+static void *change(void *bytes, int size) { return is_refused() ? NULL : memory.xRealloc(bytes, size); }
+
+/* Lets SQLite, and what it loads, find no memory when it is to. */
+static void refuse_memory(void) {
+    sqlite3_mem_methods own;
+    WANT(sqlite3_config(SQLITE_CONFIG_GETMALLOC, &memory) == SQLITE_OK);
+    own = memory;
+    own.xMalloc = take;
+    own.xRealloc = change;
+    WANT(sqlite3_config(SQLITE_CONFIG_MALLOC, &own) == SQLITE_OK);
+}
+
+static int is_memory(int code) { return code == SQLITE_NOMEM || code == SQLITE_IOERR_NOMEM; }
+
+/* An open of a pool, at each request for memory. */
+static void lack_memory(void) {
+    const char *path = full("g.db");
+    sqlite3_file *file = calloc(1, (size_t)vfs->szOsFile);
+    int got, at = 0, code = SQLITE_NOMEM;
+    for (; code && at < 100; at++) {
+        refused = at;
+        code = vfs->xOpen(vfs, path, file, MAKES, &got);
+        refused = -1;
+        WANT(!code || (is_memory(code) && !file->pMethods));
+    }
+    WANT(at > 4 && !code);
+    sqlite3_free_filename((char *)path);
+    for (at = 0, code = SQLITE_NOMEM; code; at++) {
+        refused = at;
+        code = control(file, SQLITE_FCNTL_BEGIN_ATOMIC_WRITE);
+        refused = -1;
+        WANT(!code || is_memory(code));
+    }
+    WANT(at == 2 && control(file, SQLITE_FCNTL_ROLLBACK_ATOMIC_WRITE) == SQLITE_OK);
+    WANT(delete_file("g.db", 1) == SQLITE_OK);
+    close_file(file);
+}
+
+/* Statements, at requests for memory. The database is sound at the end. SQLite goes on without some of them. */
+static void lack_memory_in_statements(void) {
+    sqlite3_file *held = open_file("held.db", MAKES);
+    char uri[8192];
+    int code = SQLITE_NOMEM, is_reached = 1, failures = 0;
+    snprintf(uri, sizeof uri, "file:h.db?vfs=topzerad&pool=%s&program=%s", place, program);
+    for (int at = 0; is_reached; at += at < 100 ? 1 : 7) {
+        sqlite3 *db = NULL;
+        refused = at;
+        code = sqlite3_open_v2(uri, &db, SQLITE_OPEN_READWRITE | SQLITE_OPEN_CREATE | SQLITE_OPEN_URI, NULL);
+        if (!code) code = sqlite3_exec(db, "pragma cache_size=2; drop table if exists t; create table t(a, b);"
+                                       "begin; insert into t values (1, zeroblob(30000)); insert into t select * from t;"
+                                       "commit; pragma integrity_check", NULL, NULL, NULL);
+        is_reached = refused < 0;
+        refused = -1;
+        sqlite3_close(db);
+        failures += code != SQLITE_OK;
+        WANT(!code || code == SQLITE_NOMEM || code == SQLITE_IOERR);
+    }
+    WANT(!code && failures > 50);
+    WANT(delete_file("h.db", 0) == SQLITE_OK && delete_file("held.db", 0) == SQLITE_OK);
+    close_file(held);
+}
+
 int main(int count, char **words) {
     sqlite3 *db;
     char *message = NULL;
+    refuse_memory();
     if (count != 3 && count != 4) return 2;
     place = words[2];
     is_shared = count == 3;
@@ -348,6 +419,8 @@ int main(int count, char **words) {
     WANT(delete_file("held.db", 1) == SQLITE_OK);
     close_file(held);
     refuse_names();
+    lack_memory();
+    lack_memory_in_statements();
     WANT(sqlite3_close(db) == SQLITE_OK);
     puts("check: the calls of the VFS are right");
     return 0;

@@ -7,13 +7,15 @@ import os
 import pathlib
 import random
 import shutil
+import signal
 import subprocess
 import sys
 import threading
 import time
 
 from databases import (
-    MIB, TOP, Fault, Hub, Pool, Tests, connect, load, names_in, new_pool, one, set_mode, sqlite3, uri, want, want_sound,
+    MIB, TOP, Fault, Hub, Pool, Tests, children, connect, load, names_in, new_pool, one, set_mode, sqlite3, uri, want,
+    want_sound,
 )  # fmt: skip
 import writers
 
@@ -263,6 +265,58 @@ def a_pool_in_use(tests):
     connection.close()
 
 
+def an_end_of_the_process(tests):
+    """The process that has the pool is killed while a database is open. After a close it is opened again."""
+    for mode in ("delete", "wal"):
+        pool = new_pool(tests, name=f"{mode}.pool")
+        before = set(children(os.getpid()))
+        connection = connect("app.db", tests.program, pool=pool)
+        set_mode(connection, mode, "extra")
+        connection.execute("create table t(a)")
+        connection.execute("insert into t values (1)")
+        (server,) = set(children(os.getpid())) - before
+        os.kill(server, signal.SIGKILL)
+        for _ in range(2):
+            try:
+                connection.execute("insert into t values (2)")
+                raise Fault("it goes on without the process")
+            except sqlite3.OperationalError as error:
+                want("I/O" in str(error), "the error is", error)
+        connection.close()
+        connection = connect("app.db", tests.program, pool=pool)
+        want(one(connection, "select count(*) from t") == 1, mode, "rows")
+        want_sound(connection)
+        connection.execute("insert into t values (2)")
+        connection.close()
+
+
+def a_log_by_a_hub(tests):
+    """A database in the mode of a write-ahead log is refused by a hub, but to one program at a time."""
+    hub = Hub(tests)
+    connection = connect("app.db", tests.program, socket=hub.path)
+    connection.execute("pragma locking_mode=exclusive")
+    set_mode(connection, "wal")
+    connection.execute("create table t(a)")
+    connection.execute("insert into t values (1)")
+    other = connect("app.db", tests.program, socket=hub.path, timeout=0)
+    try:
+        other.execute("select * from t")
+        raise Fault("another one reads it meanwhile")
+    except sqlite3.OperationalError as error:
+        want("locked" in str(error) or "unable to open" in str(error), "the error is", error)
+    connection.close()
+    try:
+        other.execute("select * from t")
+        raise Fault("it is opened without memory")
+    except sqlite3.OperationalError as error:
+        want("unable to open" in str(error), "the error is", error)
+    other.execute("pragma locking_mode=exclusive")
+    want(one(other, "select count(*) from t") == 1, "rows")
+    set_mode(other, "delete")
+    other.close()
+    hub.end()
+
+
 def several_databases(tests):
     """A transaction over databases in one pool, in another one, and in a plain file. A backup."""
     pools = [new_pool(tests, name=f"{name}.pool") for name in "ab"]
@@ -390,10 +444,13 @@ TESTS = [
     a_large_database,
     a_full_pool,
     a_pool_in_use,
+    an_end_of_the_process,
+    a_log_by_a_hub,
     several_databases,
     programs_share_a_database,
     a_mixed_load,
     writers.kills,
+    writers.kills_of_the_program_alone,
     writers.kills_beside_others,
     the_tests_of_sqlite,
 ]

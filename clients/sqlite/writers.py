@@ -13,6 +13,8 @@ from databases import Hub, children, connect, load, new_pool, one, set_mode, sql
 
 # Journal modes, and how far a commit is synced in each: so far that no power failure takes it back.
 MODES = [("delete", "extra"), ("truncate", "full"), ("persist", "full"), ("wal", "full")]
+# Those in which the end of the writer alone loses no commit.
+WEAK_MODES = [("delete", "off"), ("truncate", "off"), ("persist", "normal"), ("wal", "off"), ("wal", "normal")]
 SCHEMA = """create table if not exists counts(writer integer primary key, count integer);
 create table if not exists rows(id integer primary key, writer integer, count integer, bytes blob);
 create index if not exists by_writer on rows(writer, count);"""
@@ -87,15 +89,15 @@ def want_counts(connection, writer, acknowledged, what):
     return count
 
 
-def kills_in_a_journal_mode(tests, mode):
+def kills_in_a_mode(tests, mode, victims):
     """Kills in the middle of transactions. The next one goes on where the one before was killed."""
-    chance, pool = random.Random(tests.chosen.seed), new_pool(tests, 256 << 20, f"{mode[0]}.pool")
+    chance, pool = random.Random(tests.chosen.seed), new_pool(tests, 256 << 20, f"{' '.join(mode)}.pool")
     before = commits = 0
     connection = connect("app.db", tests.program, pool=pool)
     make(connection, 1)
     connection.close()
     for at in range(tests.chosen.kills):
-        victim = ["writer", "server", "both"][at % 3]
+        victim = victims[at % len(victims)]
         writer = Writer(tests, pool, mode)
         time.sleep(0.4 + chance.random() * 0.6)
         writer.kill(victim)
@@ -107,12 +109,18 @@ def kills_in_a_journal_mode(tests, mode):
         before = count
         connection.close()
     want(tests.chosen.kills < 5 or commits > tests.chosen.kills, "too few commits:", commits)
-    print(f"{mode[0]}: {tests.chosen.kills} kills, {commits} acknowledged commits, none lost")
+    print(f"{' '.join(mode)}: {tests.chosen.kills} kills, {commits} acknowledged commits, none lost")
 
 
 def kills(tests):
+    """Kills of the writer, of its server, and of both."""
     for mode in MODES:
-        kills_in_a_journal_mode(tests, mode)
+        kills_in_a_mode(tests, mode, ["writer", "server", "both"])
+
+
+def kills_of_the_program_alone(tests):
+    for mode in WEAK_MODES:
+        kills_in_a_mode(tests, mode, ["writer"])
 
 
 def kills_beside_others(tests):
