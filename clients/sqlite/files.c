@@ -414,7 +414,9 @@ int file_size(file *f, int is_locked, uint64_t *size) {
     pthread_mutex_unlock(&p->lock);
     if (refusal || !is_stale) return refusal;
     refusal = prepare_read(f);
+    pthread_mutex_lock(&p->lock);
     *size = f->layout.size;
+    pthread_mutex_unlock(&p->lock);
     return refusal;
 }
 

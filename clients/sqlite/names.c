@@ -148,7 +148,6 @@ int names_remove(pool *p, uint32_t object) {
 
 int names_check(pool *p, const char *name) {
     uint32_t object;
-    if (strlen(name) > MOST_FILE_NAME || strchr(name, '#')) return TOPZERAD_BAD_RANGE;
     int refusal = topzerad_find_named(&p->handle, name, &object);
     return refusal == TOPZERAD_NO_OBJECT ? 0 : refusal;
 }

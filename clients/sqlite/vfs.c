@@ -178,12 +178,12 @@ static char *absolute(const char *path) {
     return made;
 }
 
-/* Puts the absolute path of a pool and the name of a file together. */
+/* Puts the absolute path of a pool and the name of a database together, which isn't that of a piece. */
 static int join(const char *place, const char *name, int room, char *into) {
     char *path = absolute(place);
     if (!path) return tell(SQLITE_CANTOPEN, "%s can't be opened: its folder isn't there", place);
     size_t count = strlen(path) + 1 + strlen(name);
-    int fits = count < (size_t)room && *name;
+    int fits = count < (size_t)room && *name && strlen(name) <= MOST_FILE_NAME && !strchr(name, '#');
     if (fits) sqlite3_snprintf(room, into, "%s/%s", path, name);
     free(path);
     return fits ? SQLITE_OK : tell(SQLITE_CANTOPEN, "\"%s\" can't be the name of a database in %s", name, place);

@@ -89,14 +89,14 @@ def want_counts(connection, writer, acknowledged, what):
     return count
 
 
-def kills_in_a_mode(tests, mode, victims):
+def kills_in_a_mode(tests, mode, victims, kills):
     """Kills in the middle of transactions. The next one goes on where the one before was killed."""
     chance, pool = random.Random(tests.chosen.seed), new_pool(tests, 256 << 20, f"{' '.join(mode)}.pool")
     before = commits = 0
     connection = connect("app.db", tests.program, pool=pool)
     make(connection, 1)
     connection.close()
-    for at in range(tests.chosen.kills):
+    for at in range(kills):
         victim = victims[at % len(victims)]
         writer = Writer(tests, pool, mode)
         time.sleep(0.4 + chance.random() * 0.6)
@@ -108,19 +108,19 @@ def kills_in_a_mode(tests, mode, victims):
         commits += max(acknowledged - before, 0)
         before = count
         connection.close()
-    want(tests.chosen.kills < 5 or commits > tests.chosen.kills, "too few commits:", commits)
-    print(f"{' '.join(mode)}: {tests.chosen.kills} kills, {commits} acknowledged commits, none lost")
+    want(kills < 5 or commits > kills, "too few commits:", commits)
+    print(f"{' '.join(mode)}: {kills} kills, {commits} acknowledged commits, none lost")
 
 
 def kills(tests):
     """Kills of the writer, of its server, and of both."""
     for mode in MODES:
-        kills_in_a_mode(tests, mode, ["writer", "server", "both"])
+        kills_in_a_mode(tests, mode, ["writer", "server", "both"], tests.chosen.kills)
 
 
 def kills_of_the_program_alone(tests):
     for mode in WEAK_MODES:
-        kills_in_a_mode(tests, mode, ["writer"])
+        kills_in_a_mode(tests, mode, ["writer"], (tests.chosen.kills + 3) // 4)
 
 
 def kills_beside_others(tests):
