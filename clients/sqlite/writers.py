@@ -13,7 +13,7 @@ from databases import Hub, children, connect, load, new_pool, one, set_mode, sql
 
 # Journal modes, and how far a commit is synced in each: so far that no power failure takes it back.
 MODES = [("delete", "extra"), ("truncate", "full"), ("persist", "full"), ("wal", "full")]
-# Those in which the end of the writer alone loses no commit.
+# Those in which the end of the writer alone loses no commit. It gives back no lock in between.
 WEAK_MODES = [("delete", "off"), ("truncate", "off"), ("persist", "normal"), ("wal", "off"), ("wal", "normal")]
 SCHEMA = """create table if not exists counts(writer integer primary key, count integer);
 create table if not exists rows(id integer primary key, writer integer, count integer, bytes blob);
@@ -40,6 +40,8 @@ def write(words):
     try:
         connection = connect("app.db", words.program, **where)
         connection.execute("pragma cache_size=20")
+        if words.exclusive:
+            connection.execute("pragma locking_mode=exclusive")
         set_mode(connection, words.mode, words.synchronous)
         while True:
             print(count_up(connection, words.writer, chance), flush=True)
@@ -52,10 +54,10 @@ def write(words):
 class Writer:
     """A process that counts up in a database."""
 
-    def __init__(self, tests, place, mode, number=1, socket=False):
+    def __init__(self, tests, place, mode, number=1, *, socket=False, exclusive=False):
         words = [sys.executable, __file__, tests.chosen.bin / "topzerad.so", tests.program, place, *mode, number,
                  random.randrange(1 << 30)]  # fmt: skip
-        words += ["--socket"] if socket else []
+        words += ["--socket"] * socket + ["--exclusive"] * exclusive
         self.process = subprocess.Popen([str(word) for word in words], stdout=subprocess.PIPE, text=True)
 
     def kill(self, victim):
@@ -98,7 +100,7 @@ def kills_in_a_mode(tests, mode, victims, kills):
     connection.close()
     for at in range(kills):
         victim = victims[at % len(victims)]
-        writer = Writer(tests, pool, mode)
+        writer = Writer(tests, pool, mode, exclusive=mode in WEAK_MODES)
         time.sleep(0.4 + chance.random() * 0.6)
         writer.kill(victim)
         acknowledged = writer.end()
@@ -165,6 +167,7 @@ def main():
     parser.add_argument("writer", type=int)
     parser.add_argument("seed", type=int)
     parser.add_argument("--socket", action="store_true")
+    parser.add_argument("--exclusive", action="store_true")
     write(parser.parse_args())
 
 
