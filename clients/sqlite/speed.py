@@ -31,6 +31,7 @@ def commits(connection, mode, seconds):
 
 def selects(connection, seconds):
     """Random rows a second, of more than SQLite's page cache has room for, and rows inserted a second before."""
+    set_mode(connection, "truncate")
     connection.execute("create table r(a integer primary key, b)")
     begin = time.monotonic()
     connection.execute("begin")
