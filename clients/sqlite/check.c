@@ -1,5 +1,5 @@
-/* Makes the calls of the VFS on files of a pool: `check EXTENSION POOL PROGRAM`, or `check EXTENSION SOCKET` for the pool
- * of a hub. The pool has no objects before. */
+/* Makes the calls of the VFS on files of a pool: `check EXTENSION POOL PROGRAM`, or `check EXTENSION SOCKET` for the
+ * pool of a hub. The pool has no objects before. */
 #include <sqlite3.h>
 #include <stdint.h>
 #include <stdio.h>
@@ -296,14 +296,14 @@ static int open_by_uri(const char *uri) {
 
 /* Names and options that are refused, and two ways to say one name. */
 static void refuse_names(void) {
-    const char *const bad[] = {"a%23b",          "a/b",        "a%01",     "%ff",  "",
-                               "/x/a",           "a?dirty=1",  "a?dirty=x", "a?dirty=1048577",  "a?pool_cache=4095", "a?pool_cache=17M",
-                               "a?wait=-1",      "a?wait=1h",  "a?timeout=86401"};
+    const char *const bad[] = {
+        "a%23b", "a/b", "a%01", "%ff", "/x/a", "a?dirty=1", "a?dirty=x", "a?dirty=1048577", "a?pool_cache=4095",
+        "a?pool_cache=17M", "a?wait=-1", "a?wait=1h", "a?timeout=86401",
+    };
     char uri[8192], longest[300];
     for (size_t i = 0; i < sizeof bad / sizeof *bad; i++) {
         const char *sign = strchr(bad[i], '?') ? "&" : "?";
         snprintf(uri, sizeof uri, "file:%s%svfs=topzerad&pool=%s&program=%s", bad[i], sign, place, program);
-        if (!*bad[i]) continue; /* a database without a name is a temporary one */
         if (open_by_uri(uri) == SQLITE_OK) fprintf(stderr, "%s was opened\n", uri);
         WANT(open_by_uri(uri) == SQLITE_CANTOPEN);
     }
@@ -370,6 +370,9 @@ static void lack_memory(void) {
 
 /* Statements, at requests for memory. The database is sound at the end. SQLite goes on without some of them. */
 static void lack_memory_in_statements(void) {
+    const char *const statements =
+        "pragma cache_size=2; drop table if exists t; create table t(a, b); begin; insert into t values "
+        "(1, zeroblob(30000)); insert into t select * from t; commit; pragma integrity_check";
     sqlite3_file *held = open_file("held.db", MAKES);
     char uri[8192];
     int code = SQLITE_NOMEM, is_reached = 1, failures = 0;
@@ -378,9 +381,7 @@ static void lack_memory_in_statements(void) {
         sqlite3 *db = NULL;
         refused = at;
         code = sqlite3_open_v2(uri, &db, SQLITE_OPEN_READWRITE | SQLITE_OPEN_CREATE | SQLITE_OPEN_URI, NULL);
-        if (!code) code = sqlite3_exec(db, "pragma cache_size=2; drop table if exists t; create table t(a, b);"
-                                       "begin; insert into t values (1, zeroblob(30000)); insert into t select * from t;"
-                                       "commit; pragma integrity_check", NULL, NULL, NULL);
+        if (!code) code = sqlite3_exec(db, statements, NULL, NULL, NULL);
         is_reached = refused < 0;
         refused = -1;
         sqlite3_close(db);

@@ -14,12 +14,11 @@ import threading
 import time
 
 from databases import (
-    MIB, TOP, Fault, Hub, Pool, Tests, children, connect, load, names_in, new_pool, one, set_mode, sqlite3, uri, want,
-    want_sound,
+    MIB, STAND_IN, TOP, Fault, Hub, Pool, Tests, children, connect, load, names_in, new_pool, one, set_mode, sqlite3,
+    uri, want, want_sound,
 )  # fmt: skip
 import writers
 
-STAND_IN = str(TOP / "clients/stand_in")
 ROLLBACK_MODES = ["delete", "truncate", "persist", "memory", "off"]
 
 
@@ -351,7 +350,9 @@ def programs_share_a_database(tests):
         writers.make(connection, 2)
         want(one(connection, "pragma journal_mode=wal") == "delete", "a write-ahead log")
         two = [writers.Writer(tests, hub.path, mode, number, socket=True) for number in (1, 2)]
-        time.sleep(2)
+        for writer in two:
+            writer.await_commit()
+        time.sleep(1)
         for _ in range(20):
             connection.execute("begin")
             counts = [row[0] for row in connection.execute("select count from counts order by writer")]
@@ -383,8 +384,9 @@ def statements(chance):
     for _ in range(200):
         low = chance.randrange(1_000_000)
         yield "select count(*), sum(b) from two where b between ? and ?", (low, low + 20_000)
-        yield "update one set c=c || ? where a between ? and ?", ("x" * chance.randrange(300), low % 2000, low % 2000 + 5)
-        yield "delete from two where a=?", (low % 2000,)
+        at = low % 2_000
+        yield "update one set c=c || ? where a between ? and ?", ("x" * chance.randrange(300), at, at + 5)
+        yield "delete from two where a=?", (at,)
         yield "insert or replace into one select a + 1, b, c from two where b > ? limit 3", (low,)
     yield "savepoint s", ()
     yield "update two set b=-b", ()
@@ -450,6 +452,7 @@ TESTS = [
     programs_share_a_database,
     a_mixed_load,
     writers.kills,
+    writers.power_failures,
     writers.kills_of_the_program_alone,
     writers.kills_beside_others,
     the_tests_of_sqlite,

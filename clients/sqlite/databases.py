@@ -14,6 +14,7 @@ from hubs import Fault, Hub, Tests, children, wait_until, want  # noqa: E402
 
 from topzerad import Pool  # noqa: E402
 
+STAND_IN = str(TOP / "clients/stand_in")
 MIB = 1 << 20
 WAIT = 60  # seconds for a pool that a process which was killed still has
 
@@ -70,5 +71,5 @@ def names_in(tests, pool):
         return sorted(opened.names())
 
 
-__all__ = ["Fault", "Hub", "MIB", "Pool", "TOP", "Tests", "WAIT", "children", "connect", "load", "names_in", "new_pool",
-           "one", "set_mode", "sqlite3", "uri", "wait_until", "want", "want_sound"]  # fmt: skip
+__all__ = ["Fault", "Hub", "MIB", "Pool", "STAND_IN", "TOP", "Tests", "WAIT", "children", "connect", "load",
+           "names_in", "new_pool", "one", "set_mode", "sqlite3", "uri", "wait_until", "want", "want_sound"]  # fmt: skip

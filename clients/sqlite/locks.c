@@ -1,6 +1,6 @@
-/* SQLite's five levels of locks. Handles of one process have them here. Programs that share a pool by a hub have them on
- * bytes of a file beside the hub's socket, as SQLite's own files have them: the system gives them back when a process
- * ends. Each handle opens that file anew, so its locks are its own and not those of its process. */
+/* SQLite's five levels of locks. Handles of one process have them here. Programs that share a pool by a hub have them
+ * on bytes of a file beside the hub's socket, as SQLite's own files have them: the system gives them back when a
+ * process ends. Each handle opens that file anew, so its locks are its own and not those of its process. */
 #define _GNU_SOURCE /* F_OFD_SETLK */
 #include "vfs.h"
 

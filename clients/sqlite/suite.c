@@ -1,6 +1,6 @@
 /* For SQLite's own tests, which know files by plain names and look at them: a default VFS by the name `suite`, whose
- * names are those in the pool TOPZERAD_SUITE_POOL, and functions of SQL on these files. The extension topzerad has to be
- * loaded before. */
+ * names are those in the pool TOPZERAD_SUITE_POOL, and functions of SQL on these files. The extension topzerad has to
+ * be loaded before. */
 #include <sqlite3ext.h>
 #include <stdlib.h>
 #include <string.h>
@@ -57,7 +57,8 @@ static void file_size(sqlite3_context *context, int count, sqlite3_value **value
 static void file_remove(sqlite3_context *context, int count, sqlite3_value **values) {
     char path[MOST_PATH];
     (void)count;
-    if (!full_name(NULL, name_of(values[0]), sizeof path, path)) sqlite3_result_int(context, vfs->xDelete(vfs, path, 0));
+    if (full_name(NULL, name_of(values[0]), sizeof path, path)) return;
+    sqlite3_result_int(context, vfs->xDelete(vfs, path, 0));
 }
 
 /* file_read(NAME, AT, COUNT): a blob. */

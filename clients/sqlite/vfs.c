@@ -19,8 +19,8 @@ enum { BLOCK = 4096, MOST_PATH = PATH_MAX + NAME_ROOM };
      SQLITE_IOCAP_ATOMIC8K | SQLITE_IOCAP_ATOMIC16K | SQLITE_IOCAP_ATOMIC32K)
 #define CHARACTERISTICS \
     (ATOMIC_SIZES | SQLITE_IOCAP_SAFE_APPEND | SQLITE_IOCAP_POWERSAFE_OVERWRITE | SQLITE_IOCAP_BATCH_ATOMIC)
-/* Not SQLITE_IOCAP_SEQUENTIAL: what survives a power failure need not be the first of the transactions. It is so only of
- * those that conflict. It can be offered once the pool promises their order:
+/* Not SQLITE_IOCAP_SEQUENTIAL: what survives a power failure need not be the first of the transactions. It is so only
+ * of those that conflict. It can be offered once the pool promises their order:
  * #define CHARACTERISTICS (.. | SQLITE_IOCAP_SEQUENTIAL) */
 
 static sqlite3_vfs *real; /* SQLite's default VFS */

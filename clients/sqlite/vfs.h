@@ -7,12 +7,12 @@
  *    changes, before a lock is given back, and by a sync. What makes or removes a file is sent at once.
  * 2. A transaction that lets a file grow sets the length of its last piece. So it conflicts with each earlier change of
  *    that piece, and no power failure leaves the new size without what was written before.
- * 3. Before something is gathered the pool has the space for it, so that what SQLite was told is written can be sent. If
- *    it is refused nevertheless, as for want of memory, it is kept and sent again before anything else. What ends a
+ * 3. Before something is gathered the pool has the space for it, so that what SQLite was told is written can be sent.
+ *    If it is refused nevertheless, as for want of memory, it is kept and sent again before anything else. What ends a
  *    commit of SQLite sends it, while SQLite can still take it back.
- * 4. If a hub has the pool, other programs change it and take its space. Nothing gathers longer than for one call, which
- *    is told of a refusal. A name is looked up anew each time, and a file once a handle of it gets a lock. Who changes
- *    names holds the hub's turn.
+ * 4. If a hub has the pool, other programs change it and take its space. Nothing gathers longer than for one call,
+ *    which is told of a refusal. A name is looked up anew each time, and a file once a handle of it gets a lock. Who
+ *    changes names holds the hub's turn.
  * 5. Threads take locks in this order: that of all pools, a pool's `sending`, its `lock`. Who sends or changes anything
  *    has `sending`. Who looks at files, or changes what is known of them, has `lock`, and calls nothing that waits. */
 #ifndef TOPZERAD_VFS_H
@@ -138,8 +138,8 @@ static inline uint64_t least(uint64_t one, uint64_t other) { return one < other 
 
 /* causes.c */
 
-/* SQLite's code for a refusal of a pool: `otherwise`, if the cause has no code of its own. It is told by sqlite3_log, as
- * what was done with which file. */
+/* SQLite's code for a refusal of a pool: `otherwise`, if the cause has no code of its own. It is told by sqlite3_log,
+ * as what was done with which file. */
 int code_of(int refusal, int otherwise, const char *what, const char *path);
 /* Tells a text by sqlite3_log. Returns the code. */
 int tell(int code, const char *format, ...) __attribute__((format(printf, 2, 3)));

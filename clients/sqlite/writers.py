@@ -9,7 +9,9 @@ import subprocess
 import sys
 import time
 
-from databases import Hub, children, connect, load, new_pool, one, set_mode, sqlite3, want, want_sound
+from databases import (
+    STAND_IN, Fault, Hub, children, connect, load, new_pool, one, set_mode, sqlite3, wait_until, want, want_sound,
+)  # fmt: skip
 
 # Journal modes, and how far a commit is synced in each: so far that no power failure takes it back.
 MODES = [("delete", "extra"), ("truncate", "full"), ("persist", "full"), ("wal", "full")]
@@ -58,7 +60,13 @@ class Writer:
         words = [sys.executable, __file__, tests.chosen.bin / "topzerad.so", tests.program, place, *mode, number,
                  random.randrange(1 << 30)]  # fmt: skip
         words += ["--socket"] * socket + ["--exclusive"] * exclusive
-        self.process = subprocess.Popen([str(word) for word in words], stdout=subprocess.PIPE, text=True)
+        self.said = tests.folder / f"writer {number}"
+        with open(self.said, "wb") as said:
+            self.process = subprocess.Popen([str(word) for word in words], stdout=said)
+
+    def await_commit(self):
+        """Waits until it has told of something."""
+        wait_until(lambda: self.said.stat().st_size, "the first commit of a writer")
 
     def kill(self, victim):
         """Kills the writer, its server, or both."""
@@ -70,7 +78,8 @@ class Writer:
 
     def end(self):
         """Waits for its end. Returns the last count that was acknowledged, or 0."""
-        lines = self.process.communicate()[0].splitlines()
+        self.process.wait()
+        lines = self.said.read_text().rpartition("\n")[0].splitlines()
         return max([int(line) for line in lines if line.isdigit()], default=0)
 
 
@@ -101,7 +110,8 @@ def kills_in_a_mode(tests, mode, victims, kills):
     for at in range(kills):
         victim = victims[at % len(victims)]
         writer = Writer(tests, pool, mode, exclusive=mode in WEAK_MODES)
-        time.sleep(0.4 + chance.random() * 0.6)
+        writer.await_commit()
+        time.sleep(chance.random() * 0.5)
         writer.kill(victim)
         acknowledged = writer.end()
         connection = connect("app.db", tests.program, pool=pool)
@@ -118,6 +128,32 @@ def kills(tests):
     """Kills of the writer, of its server, and of both."""
     for mode in MODES:
         kills_in_a_mode(tests, mode, ["writer", "server", "both"], tests.chosen.kills)
+
+
+def power_failures(tests):
+    """Kills of the process that has the pool, which loses then what it wrote to the file after the last sync, and of
+    the writer with it. With a disk that ignores each third sync something is lost, or damaged."""
+    if tests.program == STAND_IN:
+        return "the stand-in guards against no power failure"
+    program = tests.program
+    tests.program = with_power_cuts(tests, program, "")
+    for mode in MODES:
+        kills_in_a_mode(tests, mode, ["server", "both"], tests.chosen.kills)
+    tests.program = with_power_cuts(tests, program, "POWERCUT_LIES=3")
+    try:
+        kills_in_a_mode(tests, ("wal", "extra"), ["server"], 20)
+    except (Fault, sqlite3.Error) as error:
+        print("with a disk that ignores each third sync:", error)
+    else:
+        raise Fault("a disk that ignores each third sync loses nothing")
+
+
+def with_power_cuts(tests, program, words):
+    """The program as one that power failures befall."""
+    script = tests.folder / f"ztxg{words}"
+    script.write_text(f"#!/bin/sh\n{words} LD_PRELOAD={tests.chosen.bin / 'powercut.so'} exec {program} \"$@\"\n")
+    script.chmod(0o755)
+    return str(script)
 
 
 def kills_of_the_program_alone(tests):
@@ -140,7 +176,9 @@ def kills_beside_others(tests):
         folder = hub.folder
         connection.close()
         writers = [Writer(tests, hub.path, mode, number, socket=True) for number in (1, 2, 3)]
-        time.sleep(0.6 + chance.random())
+        for writer in writers:
+            writer.await_commit()
+        time.sleep(chance.random() * 0.5)
         writers[0].kill("writer")
         acknowledged = [0, writers[0].end()]
         connection = connect("app.db", tests.program, socket=hub.path)
