@@ -1,0 +1,7 @@
+mod Copied
+mod Held
+mod Looks
+mod Moved
+mod RecordReads
+mod Steps
+mod Stopped

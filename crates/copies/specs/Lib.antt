@@ -1,0 +1,6 @@
+pub mod Copies
+pub mod Lines
+pub mod NewPools
+pub mod ReadRecords
+pub mod Stops
+pub mod WholeCopies
