@@ -1,7 +1,5 @@
-use Rattle.std.proofs.Common.{subst}
 use Rattle.std.proofs.KnownBytes.{Appends-trans}
 use Rattle.std.proofs.lemmas.Result.{on_ok_weaker}
-use Rattle.std.specs.Io.KnownBytes.{Appends}
 use Rattle.std.specs.Prelude.{codes}
 use Rattle.report_commands.specs.Json.{json_objects}
 use Rattle.report_commands.proofs.json_reports.write_listed.Goals as goal
@@ -12,6 +10,5 @@ returns g c =
     let between = g.W.Write.contents c.write.new.self in
     let after = g.W.Write.contents c.write_objects.new.out in
     on_ok_weaker c.write_objects.result
-    (λ written. Appends-trans before between after (codes "{\"objects\":") (json_objects c.args.inspected.now.objects.items) c.in_ok-write.ensures.bytes
-    (subst (λ l. Appends between after (json_objects l)) c.deref.ensures.value written))
+    (λ written. Appends-trans before between after (codes "{\"objects\":") (json_objects c.args.objects.now) c.in_ok-write.ensures.bytes written)
     c.write_objects.ensures
