@@ -222,8 +222,8 @@ class Commands(Judge):
         refusal = f"refused 7 Damaged 5 {DATA}\n"
         self.ends(["check", "synced.pool"], 1, f"damaged 5 {DATA}\n")
         self.ends(["check", "synced.pool", "--all"], 1, f"damaged 5 {DATA}\n")
-        for name in ("show", "ls"):
-            self.ends([name, "synced.pool"], 1, errors=f"ztxg: {refusal}")
+        for words in (["show", "synced.pool"], ["ls", "synced.pool", "--whole"]):
+            self.ends(words, 1, errors=f"ztxg: {refusal}")
         cause = f"the block of kind 5 at byte {DATA} is damaged"
         for words in (["show", "synced.pool"], ["-v", "show", "synced.pool"]):
             self.ends(words, 1, errors=f"ztxg: {refusal}ztxg: cause: {cause}\n", quiet=False)

@@ -225,7 +225,8 @@ def json_rows(judge, sync, log, flawed):
     lost = [{"label": 1, "reason": "check"}]
     shown(judge, ["check", name], 1, {"state": "damaged", "damages": damages[:1]})
     shown(judge, ["check", name, "--all"], 1, {"state": "damaged", "damages": damages, "labels": lost})
-    for words in (["show", name, "--json"], ["ls", name, "--json"], ["ls", name, "-l"], ["df", name]):
+    lists = [["ls", name, form, "--whole"] for form in ("--json", "-l")]
+    for words in (["show", name, "--json"], *lists, ["df", name]):
         judge.ends(words, 1, errors=f"ztxg: refused 7 Damaged 5 {AREA + BLOCK}\n")
     for words in (["labels", "--json"], ["check", "--json"], ["check", "--all", "--json"], ["df"], ["ls", "-l"]):
         judge.ends([*words, "none.pool"], 3, errors="ztxg: cannot use none.pool\n")
