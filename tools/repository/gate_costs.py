@@ -516,8 +516,10 @@ def main(command, folder, file, earlier):
         raise Failed(f"{folder} is not the top of a repository: {error}", 2) from error
     before = read_earlier(earlier) if earlier else {"tasks": []}
     run = measured(command, folder)
+    # So it is if `rt ci` keeps every proof from earlier runs.
     if not run.processes:
-        raise Failed(f"no proof was seen, and the status was {run.status}", 2)
+        print(f"no proof was seen, and the status was {run.status}", flush=True)
+        return int(run.status != 0)
     own = tasks_of(run.processes, crates, folder)
     tasks = with_earlier(own, before, crates) if earlier else own
     measures = {"processor seconds": "seconds", "wall time": "wall"}
