@@ -178,6 +178,7 @@ nothing_left contents created dirty_max = record {
   cut = record { each = refl; closed = λ i j d earlier below. absurd (omega (arith, below)) };
   acknowledged = λ k d below. absurd (omega (arith, below));
   replayed = refl;
+  front = λ rising i j before marked. absurd (false≢true marked);
 }
 
 -- so a create that began on the one disk left them on the other

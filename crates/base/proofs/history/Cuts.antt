@@ -9,7 +9,7 @@ use Rattle.base.specs.declared.error.PoolError.{PoolError}
 use Rattle.base.specs.history.Sequences.{and_then, in_turn, Commute}
 use Rattle.base.specs.history.Contents.{Contents}
 use Rattle.base.specs.history.Plans.{ranges}
-use Rattle.base.specs.history.History.{HasAcknowledged, IsDurable, IsHistory, MayFollow, Entry, IsWithin, conflicts, apply_all, run, replay, kept, IsCut, IsInGroupOrder, entries_up_to, entries_above, entries_in, group_by_group, left_marks}
+use Rattle.base.specs.history.History.{HasAcknowledged, IsDurable, IsHistory, MayFollow, Entry, IsWithin, conflicts, apply_all, run, replay, kept, IsCut, IsInGroupOrder, entries_up_to, entries_above, entries_in, group_by_group, left_marks, AreRising, IsFrontMarked}
 use Rattle.base.proofs.common.Sequences.{joined, Passes, sifted, in_turn-append}
 use Rattle.base.proofs.history.Conflicts.{transactions_commute}
 use Rattle.base.proofs.common.Sieves.{All-kept, All-of_kept, AllPairs-kept, kept-map, kept_others, filter-filter, filter_all, filter_nothing}
@@ -228,13 +228,33 @@ pub marks_are_left : (entries : List Entry) (synced logged k : ℕ) (d : Entry) 
     → (get_or (left_marks synced logged entries) k false ≡ true) ↔ ((k < logged) ⊎ ((get_or entries k d).group ≤ synced))
 marks_are_left entries synced logged k d l = (left_from synced logged entries k d l, left_to synced logged entries k d l)
 
+marked_within : (marks : List Bool) (j : ℕ) → get_or marks j false ≡ true → j < length marks
+marked_within [] j marked = absurd (false≢true marked)
+marked_within (m ∷ marks) zero marked = omega arith
+marked_within (m ∷ marks) (suc j) marked = let within : j < length marks = marked_within marks j marked in omega (arith, within)
+
+-- where groups rise, what is left is a front
+left_rises : (synced logged : ℕ) (es : List Entry) → AreRising es → IsFrontMarked (left_marks synced logged es)
+left_rises synced logged es rising i j l marked = left_to synced logged es i none (omega (arith, l, within)) (go (left_from synced logged es j none within marked))
+  where
+    none : Entry
+    none = record { group = 0; tx = 0; ops = [] }
+
+    within : j < length es
+    within = let w : j < length (left_marks synced logged es) = marked_within (left_marks synced logged es) j marked in omega (arith, w, length-left_marks synced logged es)
+
+    go : (j < logged) ⊎ ((get_or es j none).group ≤ synced) → (i < logged) ⊎ ((get_or es i none).group ≤ synced)
+    go (inl k) = inl (omega (arith, k, l))
+    go (inr k) = let up : (get_or es i none).group ≤ (get_or es j none).group = rising i j none l within in inr (omega (arith, k, up))
+
 pub crashes_leave_cuts : (entries : List Entry) (acknowledged : List ℕ) (synced logged : ℕ) (base now : Contents) → IsHistory entries base now
     → All (IsDurable entries synced logged) acknowledged
     → (marks : List Bool) × (tree left : Contents) × IsCut marks entries × HasAcknowledged marks acknowledged × (replay (kept marks entries) base ≡ Ok left)
     × (replay (entries_up_to synced entries) base ≡ Ok tree) × (replay (entries_above synced (take logged entries)) tree ≡ Ok left)
+    × (AreRising entries → IsFrontMarked marks)
 crashes_leave_cuts entries acknowledged synced logged base now h durable =
     let r = logs_replay entries synced logged base now h in
-    (left_marks synced logged entries, r.1.0, r.1.1, r.0, (λ i d l. marked (get_or acknowledged i d) (durable i d l)), r.1.4, r.1.2, r.1.3)
+    (left_marks synced logged entries, r.1.0, r.1.1, r.0, (λ i d l. marked (get_or acknowledged i d) (durable i d l)), r.1.4, r.1.2, r.1.3, left_rises synced logged entries)
   where
     at : (k : ℕ) (none : Entry) → (k < logged) ⊎ ((d : Entry) → (get_or entries k d).group ≤ synced) → (k < logged) ⊎ ((get_or entries k none).group ≤ synced)
     at k none (inl l) = inl l

@@ -59,6 +59,14 @@ pub record IsCut (marks : List Bool) (entries : List Entry) : Type 0 where
   pub closed : (i j : ℕ) (d : Entry) → i < j → j < length entries → conflicts (get_or entries i d) (get_or entries j d) ≡ true
       → get_or marks j false ≡ true → get_or marks i false ≡ true
 
+-- groups rise with the ordinals: no entry is of a lower group than one before it
+abbrev pub AreRising : List Entry → Type 0
+AreRising entries = AllPairs (λ (e f : Entry). e.group ≤ f.group) entries
+
+-- of what is marked, nothing unmarked is before it
+abbrev pub IsFrontMarked : List Bool → Type 0
+IsFrontMarked marks = (i j : ℕ) → i < j → get_or marks j false ≡ true → get_or marks i false ≡ true
+
 -- the entries of groups up to this one, of higher ones, and of this one
 abbrev pub entries_up_to : ℕ → List Entry → List Entry
 entries_up_to group entries = filter (λ (e : Entry). nat_le e.group group) entries

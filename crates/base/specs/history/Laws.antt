@@ -5,7 +5,7 @@ use Rattle.base.specs.declared.operation.Op.{Op}
 use Rattle.base.specs.history.Sequences.{Commute}
 use Rattle.base.specs.history.Contents.{Contents, apply, object_after}
 use Rattle.base.specs.history.Plans.{NumberRange, IsRange, ranges, plan_ranges, shape_of, clash, HaveCommon, touched, overlaps}
-use Rattle.base.specs.history.History.{Entry, MayFollow, Admitted, AreAdmitted, HasAcknowledged, IsDurable, IsWithin, IsHistory, conflicts, run, replay, kept, IsCut, IsInGroupOrder, entries_up_to, entries_above, entries_in, group_by_group, left_marks}
+use Rattle.base.specs.history.History.{Entry, MayFollow, Admitted, AreAdmitted, HasAcknowledged, IsDurable, IsWithin, IsHistory, conflicts, run, replay, kept, IsCut, IsInGroupOrder, entries_up_to, entries_above, entries_in, group_by_group, left_marks, AreRising, IsFrontMarked}
 
 -- ranges overlap exactly if they have a byte in common
 abbrev pub OverlapsAreCommon : Type 0
@@ -75,12 +75,14 @@ abbrev pub LeftMarks : Type 0
 LeftMarks = (entries : List Entry) (synced logged k : ℕ) (d : Entry) → k < length entries
     → (get_or (left_marks synced logged entries) k false ≡ true) ↔ ((k < logged) ⊎ ((get_or entries k d).group ≤ synced))
 
--- so where all that was acknowledged is durable, the tree and the log's records replay a cut with all of it
+-- so where all that was acknowledged is durable, the tree and the log's records replay a cut with all of it; where
+-- groups rise, a front
 abbrev pub CrashesLeaveCuts : Type 0
 CrashesLeaveCuts = (entries : List Entry) (acknowledged : List ℕ) (synced logged : ℕ) (base now : Contents) → IsHistory entries base now
     → All (IsDurable entries synced logged) acknowledged
     → (marks : List Bool) × (tree left : Contents) × IsCut marks entries × HasAcknowledged marks acknowledged × (replay (kept marks entries) base ≡ Ok left)
     × (replay (entries_up_to synced entries) base ≡ Ok tree) × (replay (entries_above synced (take logged entries)) tree ≡ Ok left)
+    × (AreRising entries → IsFrontMarked marks)
 
 -- what is durable stays so while the history, the tree and the log grow
 abbrev pub DurableStays : Type 0

@@ -2,7 +2,7 @@
 use Rattle.std.specs.Prelude.{ℕ, ◌≡◌, Bool, List, length, Ok}
 use Rattle.base.specs.formats.Versions.{written_version}
 use Rattle.base.specs.history.Contents.{Contents}
-use Rattle.base.specs.history.History.{replay, kept, IsCut, HasAcknowledged, IsHistory, entries_up_to}
+use Rattle.base.specs.history.History.{replay, kept, IsCut, AreRising, IsFrontMarked, HasAcknowledged, IsHistory, entries_up_to}
 use Rattle.base.specs.formats.Geometry.{block_count}
 use Rattle.base.specs.disk.Disk.{Disk, bytes_of}
 use Rattle.base.specs.disk.Fairness.{LeavesFairNow, LeavesFairSince}
@@ -19,12 +19,14 @@ pub record IsSyncedTree (now : List ℕ) (s : Shown) (past : Past) : Type 0 wher
   pub blocks : s.blocks ≡ block_count (length now)
   pub tree : IsTree now (record { version = written_version; guid = s.guid; blocks = s.blocks; group = s.line.synced }) s.root synced.objects
 
--- the contents are the replay of a cut of the entries with every acknowledged one
+-- the contents are the replay of a cut of the entries with every acknowledged one, and of a front of them where groups
+-- rise with the ordinals
 pub record IsLeftBy (past : Past) (contents : Contents) : Type 0 where
   pub marks : List Bool
   pub cut : IsCut marks past.entries
   pub acknowledged : HasAcknowledged marks past.acknowledged
   pub replayed : replay (kept marks past.entries) past.base ≡ Ok contents
+  pub front : AreRising past.entries → IsFrontMarked marks
 
 -- an image mounts to such contents
 pub record MountsToCut (image : List ℕ) (past : Past) : Type 0 where

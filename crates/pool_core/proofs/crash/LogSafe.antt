@@ -65,7 +65,7 @@ module _ (size guid : ℕ) (p q : Past) (same : record q { acknowledged = p.ackn
     bytes = h.bytes;
     each = λ image left fair.
         let c = h.each image left fair in
-        record { contents = c.contents; left = record { marks = c.left.marks; cut = c.left.cut; acknowledged = fewer c.left.marks c.left.acknowledged; replayed = c.left.replayed }; mounts = c.mounts };
+        record { contents = c.contents; left = record { marks = c.left.marks; cut = c.left.cut; acknowledged = fewer c.left.marks c.left.acknowledged; replayed = c.left.replayed; front = c.left.front }; mounts = c.mounts };
   })
 
   own_before : LeavesOwn size q guid m → LeavesOwn size p guid m
@@ -73,7 +73,7 @@ module _ (size guid : ℕ) (p q : Past) (same : record q { acknowledged = p.ackn
     bytes = h.bytes;
     each = λ image left fair.
         let c = h.each image left fair in
-        (c.0, record { marks = c.1.marks; cut = c.1.cut; acknowledged = fewer c.1.marks c.1.acknowledged; replayed = c.1.replayed }, c.2);
+        (c.0, record { marks = c.1.marks; cut = c.1.cut; acknowledged = fewer c.1.marks c.1.acknowledged; replayed = c.1.replayed; front = c.1.front }, c.2);
   })
 
 -- Where the crash rule stands before and after, and no other moment comes between, each is safe.
