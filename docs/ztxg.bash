@@ -3,11 +3,11 @@ _ztxg() {
     local word=${COMP_WORDS[COMP_CWORD]} command= index
     for ((index = 1; index < COMP_CWORD; index++)); do
         case ${COMP_WORDS[index]} in
-            create|put|get|ls|df|rm|show|check|labels|load|serve|bench|script) command=${COMP_WORDS[index]}; break ;;
+            create|put|get|ls|df|rm|copy|show|check|labels|load|serve|bench|script) command=${COMP_WORDS[index]}; break ;;
         esac
     done
     if [[ -z $command ]]; then
-        COMPREPLY=($(compgen -W "create put get ls df rm show check labels load serve bench script help -q --quiet -v --verbose --wait -h --help -V --version" -- "$word"))
+        COMPREPLY=($(compgen -W "create put get ls df rm copy show check labels load serve bench script help -q --quiet -v --verbose --wait -h --help -V --version" -- "$word"))
         return
     fi
     local options="-q --quiet -v --verbose --wait -h --help"
@@ -21,6 +21,7 @@ _ztxg() {
         show) options+=" --fast --json" ;;
         labels) options+=" --json" ;;
         rm) options+=" --moment" ;;
+        copy) options+=" --skip-damaged --size --guid" ;;
         load) options+=" --workers --ops --seed --dirty --cache --moment" ;;
         serve) options+=" --dirty --cache --moment" ;;
         bench) options+=" --size --workers --bytes --seconds --dirty --durable" ;;

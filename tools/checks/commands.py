@@ -458,6 +458,9 @@ class Commands(Judge):
             ["show", b"\xff"],
             ["bench", "--seconds", past],
             ["bench", "one", "two"],
+            ["copy", "fault.pool"],
+            ["copy", "fault.pool", "new.pool", "--size", "1x"],
+            ["copy", "fault.pool", "new.pool", "--guid", past],
             *([word, "fault.pool", text] for word in ("get", "put", "rm") for text in ("", "1x", "-", str(2**32))),
         ]:
             status, out, errors = self.run(words, quiet=False)
@@ -508,6 +511,7 @@ class Commands(Judge):
             ([*put, "--offset", str(most - 2)], "11 BadRange", end.replace(" E:", f" {most + 1}:")),
             (["load", name, *LOAD, "--dirty", "1"], "11 BadRange", causes["D"].replace(" D:", " 1:")),
             (["load", name, *LOAD, "--cache", "4097"], "11 BadRange", causes["C"].replace(" C:", " 4097:")),
+            (["copy", name, "new.pool", "--size", "1"], "8 BadGeometry", causes["SIZE"].replace(" S:", " 1:")),
             (["bench", "--size", "1"], "8 BadGeometry", causes["SIZE"].replace(" S:", " 1:")),
             (["bench", "--workers", "0"], "11 BadRange", causes["W of a bench"].replace(" W:", " 0:")),
             (["bench", "--bytes", "64513"], "11 BadRange", causes["B"].replace(" B:", " 64513:")),
@@ -755,7 +759,7 @@ class Commands(Judge):
         self.ends(["--version"], 0, f"ztxg {version} ({kit})\n", quiet=False)
         names = {(number, name) for number, name, _ in table("| n | name | when |")}
         names |= {("7", "Damaged KIND ADDRESS")}
-        for words in [["--help"], *([name, "--help"] for name in [*commands(""), "serve", "bench"])]:
+        for words in [["--help"], *([name, "--help"] for name in [*commands(""), "copy", "serve", "bench"])]:
             status, out, errors = self.run(words, quiet=False)
             if (status, errors) != (0, "") or not out:
                 self.differ(words, "ends with", (status, errors))

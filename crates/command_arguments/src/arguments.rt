@@ -42,6 +42,8 @@ pub enum Arguments<'a> {
     Read(ReadCommand<'a>),
     /// One that makes or changes a pool by one transaction after the other.
     Change(ChangeCommand<'a>),
+    /// `ztxg copy`.
+    Copy(CopyArguments<'a>),
     /// `ztxg load`.
     Load(LoadArguments<'a>),
     /// `ztxg script`.
@@ -144,6 +146,23 @@ pub struct SizedArguments<'a> {
     pub only_new: bool,
     /// Whether a pool that the file has is replaced.
     pub force: bool,
+    /// The moment, in seconds, of the new pool's uberblocks.
+    pub moment: u64,
+}
+
+/// The arguments of `ztxg copy`.
+#[derive(Clone, Copy)]
+pub struct CopyArguments<'a> {
+    /// The path of the old pool's file.
+    pub old: &'a str,
+    /// The path of the new pool's file, which is made.
+    pub new: &'a str,
+    /// The bytes of the new file, if they aren't those of the old one.
+    pub size: Option<u64>,
+    /// The new pool's guid.
+    pub guid: u64,
+    /// Whether what can't be read is passed over.
+    pub skips_damaged: bool,
     /// The moment, in seconds, of the new pool's uberblocks.
     pub moment: u64,
 }

@@ -9,10 +9,10 @@ mod reports;
 mod sizes;
 
 pub use arguments::{
-    Arguments, BenchArguments, ChangeCommand, CheckArguments, CreateArguments, GetArguments,
-    GetNamedArguments, LoadArguments, Options, PutArguments, PutNamedArguments, ReadCommand,
-    RemoveArguments, RemoveNamedArguments, ScriptArguments, ScriptDevice, ServeArguments,
-    SizedArguments, Terminals, Verbosity,
+    Arguments, BenchArguments, ChangeCommand, CheckArguments, CopyArguments, CreateArguments,
+    GetArguments, GetNamedArguments, LoadArguments, Options, PutArguments, PutNamedArguments,
+    ReadCommand, RemoveArguments, RemoveNamedArguments, ScriptArguments, ScriptDevice,
+    ServeArguments, SizedArguments, Terminals, Verbosity,
 };
 pub use bench::{BenchOrder, MAX_BENCH_BYTES, MAX_BENCH_SECONDS, MAX_BENCH_WORKERS};
 pub use order::{MAX_WORKERS, MAX_WRITES, Order, STREAMS};

@@ -3,10 +3,11 @@
 use crate::help;
 use crate::options::{
     ALL, BENCH_FILE, BENCH_SECONDS, BENCH_SIZE, BENCH_WORKERS, BYTES, CACHE, CLOCK_MOMENT,
-    CREATE_MOMENT, CREATED_FILE, DIRTY, DURABLE, FAST, FORCE, GET_OFFSET, GIVEN_GUID, GIVEN_NAME,
-    GIVEN_SIZE, HELP, HUMAN_READABLE, JSON, LENGTH, LOAD_WORKERS, LOADED_DIRTY, LONG, MEMORY_SIZE,
-    MOMENT, NEW, OBJECT, OPS, POOL_GUID, POOL_NAME, POOL_SIZE, PUT_OFFSET, READ_FILE, SCRIPT,
-    SCRIPT_FILE, SEED, STOP, SYNC, WHOLE, WRITTEN_FILE,
+    COPY_GUID, COPY_SIZE, CREATE_MOMENT, CREATED_FILE, DIRTY, DURABLE, FAST, FORCE, GET_OFFSET,
+    GIVEN_GUID, GIVEN_NAME, GIVEN_SIZE, HELP, HUMAN_READABLE, JSON, LENGTH, LOAD_WORKERS,
+    LOADED_DIRTY, LONG, MEMORY_SIZE, MOMENT, NEW, NEW_FILE, OBJECT, OLD_FILE, OPS, POOL_GUID,
+    POOL_NAME, POOL_SIZE, PUT_OFFSET, READ_FILE, SCRIPT, SCRIPT_FILE, SEED, SKIP_DAMAGED, STOP,
+    SYNC, WHOLE, WRITTEN_FILE,
 };
 use crate::words::{Word, with_words};
 use clap::Command;
@@ -39,7 +40,7 @@ pub(crate) enum Shape {
 }
 
 /// The commands, in the order of the program's help.
-pub(crate) const COMMANDS: [CommandWords; 13] = [
+pub(crate) const COMMANDS: [CommandWords; 14] = [
     CommandWords {
         name: "create",
         about: "Makes a new pool in a file, over what the file held, and prints its blocks",
@@ -106,6 +107,13 @@ pub(crate) const COMMANDS: [CommandWords; 13] = [
         after_help: help::REMOVE,
         shape: Shape::Plain,
         words: &[WRITTEN_FILE, OBJECT, CLOCK_MOMENT],
+    },
+    CommandWords {
+        name: "copy",
+        about: "Copies what can be read of a pool into a new pool in a new file",
+        after_help: help::COPY,
+        shape: Shape::Plain,
+        words: &[OLD_FILE, NEW_FILE, SKIP_DAMAGED, COPY_SIZE, COPY_GUID],
     },
     CommandWords {
         name: "labels",

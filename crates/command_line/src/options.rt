@@ -50,6 +50,21 @@ pub(crate) const BENCH_FILE: Word = Word {
     help: "The path of the file, which must not exist",
 };
 
+/// The files of a copy.
+pub(crate) const OLD_FILE: Word = Word {
+    name: "OLD",
+    form: Form::Place(ValueParser::String),
+    rule: Rule::Needed,
+    help: "The path of the file, a regular file that no process has open as a pool to write",
+};
+
+pub(crate) const NEW_FILE: Word = Word {
+    name: "NEW",
+    form: Form::Place(ValueParser::String),
+    rule: Rule::Needed,
+    help: "The path of the new pool's file, which must not exist",
+};
+
 // What several commands have.
 
 /// The object that the command is about.
@@ -172,6 +187,29 @@ pub(crate) const CREATE_MOMENT: Word = Word {
     rule: Rule::Free,
     help: "The moment in seconds that each written uberblock gets: below 2^64; if not{n}\
         given, now with --size, and else 0",
+};
+
+// `copy`.
+
+pub(crate) const SKIP_DAMAGED: Word = Word {
+    name: "skip-damaged",
+    form: Form::Flag,
+    rule: Rule::Free,
+    help: "Leaves out what can't be read, and prints a line for it, with status 1",
+};
+
+pub(crate) const COPY_SIZE: Word = Word {
+    name: "size",
+    form: Form::Valued("SIZE", ValueParser::String),
+    rule: Rule::Free,
+    help: "The bytes of NEW, as 64M, if not those of OLD",
+};
+
+pub(crate) const COPY_GUID: Word = Word {
+    name: "guid",
+    form: Form::Valued("GUID", NUMBER),
+    rule: Rule::Free,
+    help: "The new pool's guid, if none is to be drawn",
 };
 
 // Reports.

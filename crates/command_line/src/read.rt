@@ -4,7 +4,8 @@ use crate::bad_words::{Named, object, size};
 use crate::request::Defaults;
 use clap::ArgMatches;
 use command_arguments::{
-    Arguments, BenchArguments, BenchOrder, ChangeCommand, CheckArguments, CreateArguments,
+    Arguments, BenchArguments, BenchOrder, ChangeCommand, CheckArguments, CopyArguments,
+    CreateArguments,
     GetArguments, GetNamedArguments, ListArguments, ListForm, LoadArguments, Options, Order,
     PutArguments, PutNamedArguments, ReadCommand, RemoveArguments, RemoveNamedArguments,
     ReportArguments, ReportForm, Scope, ScriptArguments, ScriptDevice, ServeArguments,
@@ -27,6 +28,7 @@ pub(crate) fn read_command<'a>(
         "get" => read_get(given),
         "put" => read_put(given, defaults),
         "rm" => read_remove(given, defaults),
+        "copy" => read_copy(given, defaults),
         "labels" => read_labels(given),
         "load" => read_load(given),
         "serve" => read_serve(given, defaults),
@@ -235,6 +237,17 @@ fn read_remove<'a>(given: &ArgMatches<'a>, defaults: &Defaults) -> Option<Argume
         }),
     };
     Some(Arguments::Change(command))
+}
+
+fn read_copy<'a>(given: &ArgMatches<'a>, defaults: &Defaults) -> Option<Arguments<'a>> {
+    Some(Arguments::Copy(CopyArguments {
+        old: text(given, "OLD")?,
+        new: text(given, "NEW")?,
+        size: size(given, "size"),
+        guid: number(given, "guid").or(defaults.guid)?,
+        skips_damaged: given.get_flag("skip-damaged"),
+        moment: defaults.moment,
+    }))
 }
 
 fn read_load<'a>(given: &ArgMatches<'a>) -> Option<Arguments<'a>> {

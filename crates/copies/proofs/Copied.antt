@@ -1,17 +1,15 @@
 -- The steps of a copy of a pool that mounts leave each of its objects, with its bytes.
-use Rattle.std.proofs.Common.{◌≡◌, ◌≢◌, ◌<◌, ◌≤◌, ◌+◌, ◌-◌, ◌++◌, ◌∷◌, [], ℕ, suc, List, Ok, None, Some, Option, ap, arith, drop, get_or, get_or-drop, get_or-take, inl, inr, length, length-drop, length-take, max, refl, replicate, subst, sym, take, true, ◌∙◌, ◌⊎◌}
-use Rattle.std.specs.Prelude.{Result, option_map, unwrap_or}
+use Rattle.std.proofs.Common.{◌≡◌, ◌<◌, ◌≤◌, ◌+◌, ◌-◌, ◌++◌, ◌∷◌, [], ℕ, suc, List, Ok, None, Some, Option, ap, arith, drop, get_or, get_or-drop, get_or-take, inl, inr, length, length-drop, length-take, refl, replicate, subst, sym, take, true, ◌∙◌, ◌⊎◌}
+use Rattle.std.specs.Prelude.{option_map, unwrap_or}
 use Rattle.std.specs.FinMap as map
 use Rattle.std.specs.Ordering.{nat_cmp}
 use Rattle.std.specs.List.{flat_map}
 use Rattle.std.proofs.lemmas.Bool.{cases_lt}
 use Rattle.std.proofs.lemmas.List.{get_or_past}
 use Rattle.std.proofs.lemmas.Grind.{same_number_lists}
-use Rattle.base.specs.declared.error.PoolError.{PoolError}
 use Rattle.base.specs.declared.names.ObjectId.{ObjectId}
 use Rattle.base.specs.declared.operation.Op.{Op}
 use Rattle.base.specs.declared.operation.Op.TheVariants.{Create, SetLength, Write}
-use Rattle.base.specs.declared.range.Range.{Range}
 use Rattle.base.specs.disk.Disk.{Disk, bytes_of}
 use Rattle.base.specs.formats.Limits.{object_count}
 use Rattle.base.specs.history.Contents.{Contents, apply, bytes_after_write, changed, created, length_of, resize}

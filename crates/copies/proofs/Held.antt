@@ -1,5 +1,5 @@
 -- What the new pool's device holds after a copy: an import finds what the copy's transactions make of an empty pool.
-use Rattle.std.proofs.Common.{◌≡◌, ◌≢◌, ◌<◌, ◌++◌, ◌∷◌, [], ℕ, suc, List, Ok, Err, ap, append-nil, arith, length, refl, subst, sym, ◌∙◌}
+use Rattle.std.proofs.Common.{◌≡◌, ◌∷◌, [], ℕ, suc, List, Ok, Err, ap, append-nil, arith, length, refl, subst, ◌∙◌}
 use Rattle.std.specs.Prelude.{Bool, IfOk, IsTrue, Option, Result, Some, slice_get}
 use Rattle.std.specs.List.{flat_map}
 use Rattle.std.proofs.Math.Logic.{∥∥₁_elim, ∥∥₁_map, ∥∥₁_prop}
@@ -13,7 +13,7 @@ use Rattle.base.specs.history.Sequences.{in_turn}
 use Rattle.base.specs.kept.LeftDisks.{IsLeft}
 use Rattle.base.specs.steps.Explains.{AreSafe, IsLeftBy}
 use Rattle.base.proofs.common.KeptLists.{none_at}
-use Rattle.closed_pools.specs.LeftDevices.{ClosesAfter, IsLeftUpon, IsOnlyHandle}
+use Rattle.closed_pools.specs.LeftDevices.{ClosesAfter, IsOnlyHandle}
 use Rattle.closed_pools.proofs.Adds.{AddsAlone, alone_on, alone_same, ops_of, past_seen, same_entries, synced_alone, transacted_alone}
 use Rattle.closed_pools.proofs.Cuts.{replays_all}
 use Rattle.closed_pools.proofs.LeftDevices.{alone_leaves}

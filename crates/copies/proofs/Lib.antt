@@ -1,4 +1,5 @@
 mod Copied
+mod Ends
 mod Held
 mod Looks
 mod Moved

@@ -1,6 +1,6 @@
 -- What was only read, in one look or in several.
-use Rattle.std.proofs.Common.{◌≡◌, ◌≢◌, ◌⊎◌, Ok, Err, ap, inl, inr, subst, sym, refl, ◌∙◌}
-use Rattle.std.specs.Prelude.{IfErr, IsTrue, Result}
+use Rattle.std.proofs.Common.{◌≡◌, ◌⊎◌, Ok, Err, ap, inl, inr, subst, sym, refl, ◌∙◌}
+use Rattle.std.specs.Prelude.{IfErr, Result}
 use Rattle.base.specs.declared.error.PoolError.{PoolError}
 use Rattle.base.specs.declared.error.PoolError.TheVariants.{Flush, Read, Write}
 use Rattle.base.specs.declared.refused.RefusedCalls.{RefusedCalls}

@@ -18,7 +18,7 @@ use Rattle.copies.specs.Stops.{IsStopOf}
 use Rattle.copies.specs.declared.stop.Stop.{Stop}
 use Rattle.copies.specs.declared.stop.Stop.TheVariants as stop
 
-chain_moved : {S : Type 0} (P Q : ℕ → S → ℕ → Type 0) → ((a : ℕ) (s : S) (b : ℕ) → P a s b → Q a s b) → (from to : ℕ) (steps : List S) → Chain P from steps to → Chain Q from steps to
+pub chain_moved : {S : Type 0} (P Q : ℕ → S → ℕ → Type 0) → ((a : ℕ) (s : S) (b : ℕ) → P a s b → Q a s b) → (from to : ℕ) (steps : List S) → Chain P from steps to → Chain Q from steps to
 chain_moved P Q each from to [] same = same
 chain_moved P Q each from to (s ∷ steps) (middle, one, rest) = (middle, each from s middle one, chain_moved P Q each middle to steps rest)
 
@@ -38,7 +38,7 @@ module _ (keeps : Bool) (a b : Disk) (same : IsTrue keeps → a ≡ b) where
   all_moved v None steps none = none
   all_moved v (Some n) steps chain = chain_moved (IsRecordStep keeps a v) (IsRecordStep keeps b v) (record_moved v) 0 n steps chain
 
-  object_moved : (from : ℕ) (s : ObjectStep) (to : ℕ) → IsObjectStep keeps a from s to → IsObjectStep keeps b from s to
+  pub object_moved : (from : ℕ) (s : ObjectStep) (to : ℕ) → IsObjectStep keeps a from s to → IsObjectStep keeps b from s to
   object_moved from (Viewed v steps) to (number, next, seen, all) = (number, next, λ k. subst (λ (d : Disk). IsSeen (bytes_of d.now) v) (same k) (seen k), all_moved v (length_seen v) steps all)
   object_moved from (Passed first after damage) to (begins, ends, some, told) = (
     begins,

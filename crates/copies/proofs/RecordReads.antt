@@ -1,5 +1,5 @@
 -- What a read of a record of the old pool says, and several of them that one damage refuses.
-use Rattle.std.proofs.Common.{◌≡◌, ◌<◌, ◌≤◌, ◌+◌, ◌/◌, ◌%◌, ◌⊎◌, ℕ, List, arith, inl, inr, subst}
+use Rattle.std.proofs.Common.{◌≡◌, ◌<◌, ◌≤◌, ◌/◌, ◌⊎◌, ℕ, List, arith, inl, inr, subst}
 use Rattle.std.specs.Prelude.{Bool}
 use Rattle.std.proofs.lemmas.Bool.{cases_lt}
 use Rattle.base.specs.declared.error.PoolError.{PoolError}

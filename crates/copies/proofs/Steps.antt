@@ -1,6 +1,6 @@
 -- Steps of a copy one after another: what the new pool's handle made of them, and what was written, follows in order.
-use Rattle.std.proofs.Common.{◌≡◌, ◌<◌, ◌≤◌, ◌-◌, ◌++◌, ◌∷◌, [], ℕ, suc, List, Ok, None, Some, Option, ap, append-nil, false, inl, inr, length, refl, subst, sym, true, ◌∙◌, ◌⊎◌}
-use Rattle.std.specs.Prelude.{Bool, IsTrue, ◌&&◌, replicate}
+use Rattle.std.proofs.Common.{◌≡◌, ◌<◌, ◌-◌, ◌++◌, ◌∷◌, [], ℕ, suc, List, Ok, None, Some, Option, ap, append-nil, false, inl, inr, refl, subst, sym, true, ◌∙◌}
+use Rattle.std.specs.Prelude.{Bool, IsTrue, ◌&&◌}
 use Rattle.std.specs.Io.KnownBytes.{Appends}
 use Rattle.std.specs.List.{flat_map, list_all}
 use Rattle.std.proofs.KnownBytes.{Appends-nil, Appends-trans}
@@ -19,7 +19,7 @@ use Rattle.object_views.specs.declared.view.ObjectView.{ObjectView}
 use Rattle.pool_threads.specs.declared.handle.Handle.{Handle}
 use Rattle.pool_threads.specs.Transacts.{TransactsOrLacks}
 use Rattle.trees.specs.declared.damages.BlockDamage.{BlockDamage}
-use Rattle.copies.specs.Copies.{AreAllSteps, AreChecked, Chain, CopiesObjects, CopiesRecords, Goes, IsLostFrom, IsObjectStep, IsRecordStep, MakesAll, ObjectStep, RecordStep, WritesUnlessZeros, is_copied, is_kept, made_object, object_lines, object_writes, record_lines, record_writes, viewed_object}
+use Rattle.copies.specs.Copies.{AreAllSteps, AreChecked, Chain, CopiesObjects, CopiesRecords, Goes, IsLostFrom, IsObjectStep, IsRecordStep, MakesAll, WritesUnlessZeros, is_copied, is_kept, made_object, object_lines, object_writes, record_lines, record_writes, viewed_object}
 use Rattle.copies.specs.Copies.ObjectStep.{Passed, Viewed}
 use Rattle.copies.specs.Copies.RecordStep.{Hole, Lost, Written}
 use Rattle.copies.specs.Lines.{missing_line}

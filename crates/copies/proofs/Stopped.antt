@@ -1,15 +1,12 @@
 -- Why a copy ends before its end, by what a look was refused for.
-use Rattle.std.proofs.Common.{◌≡◌, ◌≢◌, ◌⊎◌, ℕ, false, inl, inr, refl, subst, sym, ◌∙◌}
+use Rattle.std.proofs.Common.{◌≡◌, ◌≢◌, ℕ, inl, inr, refl, subst, sym, ◌∙◌}
 use Rattle.std.specs.Prelude.{Bool, IsTrue}
 use Rattle.base.specs.declared.error.PoolError.{PoolError}
 use Rattle.base.specs.declared.error.PoolError.TheVariants.{BadGeometry, BadRange, Damaged, Flush, NoMemory, NoObject, NoPool, Read, Write}
 use Rattle.base.specs.declared.range.Range.{Range}
 use Rattle.base.specs.disk.Disk.{Disk, bytes_of}
-use Rattle.import_replay.specs.ImportRefusals.{IsWalkRefusal}
-use Rattle.inspections.specs.PoolDamages.{IsOfNoDamage}
 use Rattle.inspections.specs.Refused.{IsInspectionRefusal}
 use Rattle.object_maps.specs.BlockReads.{IsLoadRefusal}
-use Rattle.object_reads.specs.ShownTrees.{IsRangeRefusal}
 use Rattle.object_views.specs.ObjectViews.{IsObjectReadRefusal}
 use Rattle.object_views.specs.declared.view.ObjectView.{ObjectView}
 use Rattle.read_commands.specs.Reads.{IsReadersRefusal}
@@ -17,7 +14,7 @@ use Rattle.trees.specs.declared.damages.BlockDamage.{BlockDamage}
 use Rattle.copies.specs.ReadRecords.{IsPlainRefusal, MountsNone}
 use Rattle.copies.specs.Stops.{IsStopFor, IsStopOf}
 use Rattle.copies.specs.declared.stop.Stop.{Stop}
-use Rattle.copies.specs.declared.stop.Stop.TheVariants.{New, Old, Unwritten}
+use Rattle.copies.specs.declared.stop.Stop.TheVariants.{Old}
 
 -- what a look is refused for is no write and no flush
 reader : (e f : PoolError) → e ≡ f → f ≢ Write → f ≢ Flush → IsReadersRefusal e

@@ -1,16 +1,83 @@
 //! What callers rest on: one function for each promise of this crate's calls, proved from the contract of the call
 //! alone. So it is refused as soon as that contract says less.
 
-ghost use Rattle.std.specs.Prelude.{◌≡◌, IfOk, IsTrue, true};
+ghost use Rattle.std.specs.Prelude.{◌≡◌, [], IfOk, IsTrue, Some, true};
 ghost use Rattle.base.specs.disk.Disk.{bytes_of};
 ghost use Rattle.object_views.specs.PoolPaths.{AreFoundOn, ArePathsOf};
 
 use crate::copying::{NewPool, copy_into};
+use crate::files::run_copy;
 use crate::stop::Stop;
+use command_arguments::{CopyArguments, Options, Verbosity};
 use device_model::SectorDevice;
+use file_devices::{FileRefusal, HeldFile};
 use object_views::PoolPaths;
+use read_commands::NotesRefusals;
 use std::io::Write;
+use std::os::unix::fs::FileExt;
+use std::rt::Files;
 use std::sync::Wait;
+
+const OPTIONS: Options = Options {
+    verbosity: Verbosity::Quiet,
+    wait: 0,
+};
+
+// What a copy is asked for that gives the new file this size.
+fn copy_of(size: Option<u64>) -> CopyArguments<'static>
+    ensures size { result.size ≡ size }
+{
+    CopyArguments {
+        old: "old.pool",
+        new: "new.pool",
+        size,
+        guid: 78,
+        skips_damaged: true,
+        moment: 0,
+    }
+}
+
+// The output had no bytes before.
+fn a_copy_of_status_0_prints_nothing<
+    R: Files + Wait + AllocGlobal,
+    D: SectorDevice + NotesRefusals,
+    W: Write,
+    E: Write,
+>(rt: &R, opened: &mut Result<D, FileRefusal>, out: &mut W, errors: &mut E) -> u8
+where
+    R::File: FileExt + HeldFile,
+    ensures { result ≡ 0 → IfOk opened.old
+        (λ _. W.contents out.old ≡ Some [] → W.contents out.new ≡ Some []) }
+{
+    run_copy(rt, copy_of(None), OPTIONS, opened, out, errors)
+}
+
+fn a_copy_leaves_the_old_disk_as_it_was<
+    R: Files + Wait + AllocGlobal,
+    D: SectorDevice + NotesRefusals,
+    W: Write,
+    E: Write,
+>(rt: &R, opened: &mut Result<D, FileRefusal>, out: &mut W, errors: &mut E) -> u8
+where
+    R::File: FileExt + HeldFile,
+    ensures { IsTrue D.keeps_model → IfOk opened.old
+        (λ before. IfOk opened.new (λ after. D.disk after ≡ D.disk before)) }
+{
+    run_copy(rt, copy_of(None), OPTIONS, opened, out, errors)
+}
+
+fn a_copy_into_a_small_file_has_status_1<
+    R: Files + Wait + AllocGlobal,
+    D: SectorDevice + NotesRefusals,
+    W: Write,
+    E: Write,
+>(rt: &R, opened: &mut Result<D, FileRefusal>, out: &mut W, errors: &mut E) -> u8
+where
+    R::File: FileExt + HeldFile,
+    ensures { IfOk opened.old (λ _. result ≡ 1) }
+{
+    run_copy(rt, copy_of(Some(6_291_455)), OPTIONS, opened, out, errors)
+}
 
 // A damage isn't passed over unless that is asked for.
 fn a_copy_that_ends_has_all<
@@ -31,24 +98,4 @@ fn a_copy_that_ends_has_all<
     ensures { IfOk result.0 (λ whole. whole ≡ true) }
 {
     copy_into(rt, paths, pool, false, old, new, out)
-}
-
-fn a_copy_leaves_the_old_disk_as_it_was<
-    R: Wait + AllocGlobal,
-    D: SectorDevice,
-    N: SectorDevice + Drop,
-    W: Write,
->(
-    rt: &R,
-    paths: &PoolPaths,
-    pool: NewPool,
-    old: &mut D,
-    new: N,
-    out: &mut W,
-) -> (Result<bool, Stop>, N)
-    requires fits { AreFoundOn (D.size old.old) paths.now }
-    requires paths { IsTrue D.keeps_model → ArePathsOf (bytes_of (D.disk old.old).now) paths.now }
-    ensures { IsTrue D.keeps_model → D.disk old.new ≡ D.disk old.old }
-{
-    copy_into(rt, paths, pool, true, old, new, out)
 }

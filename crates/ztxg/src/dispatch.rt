@@ -4,6 +4,7 @@ ghost use Rattle.std.specs.Prelude.{◌≤◌};
 
 use benching::run_bench;
 use command_arguments::{Arguments, Options, Terminals};
+use copies::run_copy;
 use file_devices::{Access, HeldFile};
 use loading::run_load;
 use named_changes::run_change;
@@ -36,6 +37,11 @@ where
         Arguments::Change(command) => run_change(rt, command, options, terminals, errors),
         Arguments::Bench(arguments) => {
             run_bench(rt, arguments, options, &mut io::writer(rt), errors)
+        }
+        Arguments::Copy(arguments) => {
+            let mut opened = open_within(rt, arguments.old, Access::Read, wait);
+            let out = &mut io::writer(rt);
+            run_copy(rt, arguments, options, &mut opened, out, errors)
         }
         Arguments::Script(arguments) => run_named_script(rt, arguments, options, errors),
         Arguments::Load(arguments) => run_load(

@@ -1,7 +1,7 @@
 //! The command line of the pool's write engine. `ztxg create FILE --size SIZE` makes a pool in a file, whose objects
 //! `ls`, `get`, `put` and `rm` list, read, write and remove. `show`, `check`, `df` and `labels` report on it, `load`
 //! makes many writes on it, `serve` answers frames of requests to it, and `script` runs a script, on it or on a device
-//! in memory. `bench` times commits on a pool of its own.
+//! in memory. `copy` copies what can be read of a pool into a new one. `bench` times commits on a pool of its own.
 #![tactic(auto)]
 
 mod dispatch;

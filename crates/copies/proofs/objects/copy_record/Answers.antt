@@ -1,5 +1,4 @@
-use Rattle.std.proofs.Common.{◌≡◌, ◌<◌, List, Ok, arith, subst, sym, ℕ}
-use Rattle.std.specs.Prelude.{Option}
+use Rattle.std.proofs.Common.{◌≡◌, ◌<◌, Ok, subst, sym, ℕ}
 use Rattle.std.specs.Io.KnownBytes.{Appends}
 use Rattle.base.specs.declared.names.ObjectId.{ObjectId}
 use Rattle.copies.specs.Copies.{AreChecked, IsLostFrom, WritesUnlessZeros, viewed_object}

@@ -1,6 +1,6 @@
-use Rattle.std.proofs.Common.{◌≡◌, ◌∷◌, [], List, Ok, inr, rules, subst}
+use Rattle.std.proofs.Common.{◌≡◌, ◌∷◌, [], List, Ok, rules, subst}
 use Rattle.base.specs.declared.operation.Op.{Op}
-use Rattle.base.specs.declared.operation.Op.TheVariants.{Create, SetLength, Write}
+use Rattle.base.specs.declared.operation.Op.TheVariants.{Create, SetLength}
 use Rattle.commands.specs.Committed.{command_owner}
 use Rattle.pool_threads.specs.Transacts.{TransactsOrLacks}
 use Rattle.copies.proofs.Steps.{one_made}

@@ -1,4 +1,4 @@
-use Rattle.std.proofs.Common.{◌≡◌, List, ap, arith, rules, true, ◌∙◌, ℕ}
+use Rattle.std.proofs.Common.{◌≡◌, List, arith, rules, true, ◌∙◌, ℕ}
 use Rattle.base.specs.declared.pointer.Pointer.{Pointer}
 use Rattle.copies.specs.ReadRecords.{IsRangeRead}
 use Rattle.copies.proofs.Moved.{seen_moved}

@@ -1,7 +1,7 @@
-use Rattle.std.proofs.Common.{subst, sym, ◌∙◌, ℕ}
+use Rattle.std.proofs.Common.{subst, sym, ◌∙◌}
 use Rattle.std.proofs.lemmas.Result.{err_from_is_err_and}
 use Rattle.base.specs.disk.Disk.{Disk, bytes_of}
-use Rattle.object_views.specs.PoolPaths.{AreFoundOn, ArePathsOf}
+use Rattle.object_views.specs.PoolPaths.{ArePathsOf}
 use Rattle.copies.specs.Copies.{IsObjectStep, is_copied, object_lines, object_writes}
 use Rattle.copies.proofs.Looks.{alone_on, read_on}
 use Rattle.copies.proofs.Moved.{objects_moved, stop_moved}

@@ -1,0 +1,17 @@
+use Rattle.std.proofs.Common.{subst}
+use Rattle.std.specs.Prelude.{Bool}
+use Rattle.read_commands.proofs.OnlyRead.{of_opened}
+use Rattle.copies.specs.NewPools.{CopiesAll}
+use Rattle.copies.specs.Statuses.{IsCopied}
+use Rattle.copies.proofs.Ends.{copied_whole}
+use Rattle.copies.proofs.files.run_copy.Goals as goal
+
+pub returns-in-Ok-true-clause-copied : goal.returns-in-Ok-true-clause-copied
+returns-in-Ok-true-clause-copied g c = λ zero.
+    let D = g.D.SectorDevice in
+    let skips = c.args.arguments.skips_damaged in
+    let o = g.W.Write.contents c.args.out.now in
+    let p = g.W.Write.contents c.copy_found.new.out in
+    of_opened c.args.opened.now c.in-Ok.device c.in-Ok.is (λ device. IsCopied D device skips o p)
+    (copied_whole D.keeps_model (D.disk c.in-Ok.device) skips o p
+    (subst (λ (whole : Bool). CopiesAll D.keeps_model (D.disk c.in-Ok.device) skips whole o p) c.in-Ok-true.field-0-test c.in-Ok-true.ensures.copied))
