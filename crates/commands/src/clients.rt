@@ -12,11 +12,11 @@ ghost use Rattle.std.specs.Prelude.{◌≡◌, [], Some, codes};
 use crate::pool_files::run_create;
 use command_arguments::{CreateArguments, Options, Verbosity};
 use file_devices::HeldFile;
+use read_commands::ShownWork;
 use std::io::{Eprint, Write};
 use std::os::unix::fs::FileExt;
 use std::rt::{Clock, Files};
 use std::sync::Wait;
-use terminal_progress::ShownWork;
 
 const BRIEF: Verbosity = Verbosity::Quiet;
 

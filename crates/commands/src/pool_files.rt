@@ -18,13 +18,14 @@ use device_model::SectorDevice;
 use file_devices::HeldFile;
 use import_replay::create;
 use labels::{Geometry, LABEL_SIZE, MAX_SIZE, MIN_SIZE, SECTOR_SIZE};
-use read_commands::{Failure, NewFile, NotesRefusals, Quoted, report_failure, report_refusal};
+use read_commands::{
+    Failure, NewFile, NotesRefusals, Quoted, ShownDevice, ShownWork, report_failure, report_refusal,
+};
 use std::fmt;
 use std::io::{Eprint, Write};
 use std::os::unix::fs::FileExt;
 use std::rt::{Clock, Files};
 use std::sync::Wait;
-use terminal_progress::{ShownDevice, ShownWork};
 
 /// Makes a pool in a file, writes a line with its name and the number of its blocks to `out`, and returns the exit
 /// status.

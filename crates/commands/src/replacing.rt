@@ -26,8 +26,8 @@ use device_model::SectorDevice;
 use file_devices::{Access, FileRefusal, HeldFile};
 use labels::{Geometry, LabelConfig, SECTOR_SIZE};
 use read_commands::{
-    ConfigState, Failure, FileName, Finding, LabelState, check_pool, open_within, read_states,
-    report_failure,
+    ConfigState, Failure, FileName, Finding, LabelState, ShownDevice, ShownWork, check_pool,
+    open_within, read_states, report_failure,
 };
 use std::alloc::Global;
 use std::io::{Eprint, ErrorKind, Write};
@@ -35,7 +35,6 @@ use std::os::unix::fs::FileExt;
 use std::path::Path;
 use std::rt::{Clock, Files};
 use std::sync::Wait;
-use terminal_progress::{ShownDevice, ShownWork};
 
 /// The name of a pool whose file has a name that no pool may have.
 const OTHER_NAME: &str = "pool";

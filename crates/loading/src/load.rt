@@ -13,7 +13,7 @@ use device_model::SectorDevice;
 use file_devices::FileRefusal;
 use loads::{Gate, Loaded, WRITES_BETWEEN_WAITS, load};
 use pool_threads::{Limits, Pool};
-use read_commands::{BadNumber, Failure, NotesRefusals, report_failure};
+use read_commands::{BadNumber, Failure, NotesRefusals, ProgressLine, report_failure};
 use script_lines::Answer;
 use std::alloc::Global;
 use std::fmt;
@@ -21,7 +21,6 @@ use std::io::{self, Eprint, Write};
 use std::sync::Wait;
 use std::sync::atomic::{AtomicU64, Ordering};
 use std::thread::Threads;
-use terminal_progress::ProgressLine;
 
 /// How many objects a load empties or makes: those from 0 to the number of its streams.
 const LOADED_OBJECTS: usize = STREAMS as usize + 1;

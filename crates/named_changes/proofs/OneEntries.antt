@@ -46,8 +46,8 @@ use Rattle.named_changes.specs.TableReads.{ReadsTable}
 use Rattle.named_changes.specs.declared.new_objects.NewObject.{NewObject}
 use Rattle.named_changes.specs.declared.steps.NameRefusal.{NameRefusal}
 use Rattle.named_changes.specs.declared.steps.NameRefusal.TheVariants.{Engine}
-use Rattle.named_reads.specs.NamedObjects.{HasName}
-use Rattle.named_reads.specs.Tables.{table_range}
+use Rattle.read_commands.specs.NamedObjects.{HasName}
+use Rattle.read_commands.specs.NamedTables.{table_range}
 
 -- an entry that was not there before, that is so of an object, and that no crash loses
 abbrev IsOneEntry : (ObjectId → List Op → Type 0) → State → State → Type 0

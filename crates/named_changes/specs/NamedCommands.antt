@@ -10,9 +10,9 @@ use Rattle.named_changes.specs.NamedPuts.{PutsNamed}
 use Rattle.named_changes.specs.NamedRemovals.{RemovesNamed}
 use Rattle.named_changes.specs.Refusals.{IsEarlyFailure, IsNameFailureFor}
 use Rattle.named_changes.specs.declared.steps.NameRefusal.{NameRefusal}
-use Rattle.named_reads.specs.declared.causes.NameCause.TheVariants.{NoName}
-use Rattle.named_reads.specs.declared.causes.NameFailure.{NameFailure}
-use Rattle.named_reads.specs.declared.causes.NameFailure.TheVariants.{Name, Plain}
+use Rattle.read_commands.specs.declared.name_causes.NameCause.TheVariants.{NoName}
+use Rattle.read_commands.specs.declared.name_causes.NameFailure.{NameFailure}
+use Rattle.read_commands.specs.declared.name_causes.NameFailure.TheVariants.{Name, Plain}
 use Rattle.object_names.specs.Names.{is_name}
 use Rattle.pool_threads.specs.declared.shared.Shared.{Shared}
 use Rattle.read_commands.specs.declared.failure.Failure.{Failure}

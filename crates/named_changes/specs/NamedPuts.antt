@@ -10,7 +10,7 @@ use Rattle.named_changes.specs.Refusals.{by_engine}
 use Rattle.named_changes.specs.TableReads.{ReadsTable}
 use Rattle.named_changes.specs.declared.steps.NameRefusal.{NameRefusal}
 use Rattle.named_changes.specs.declared.steps.NameRefusal.TheVariants.{Engine, Name}
-use Rattle.named_reads.specs.declared.causes.NameCause.TheVariants.{NoTable}
+use Rattle.read_commands.specs.declared.name_causes.NameCause.TheVariants.{NoTable}
 use Rattle.object_names.specs.NameTables.{IsNamed}
 use Rattle.pool_threads.specs.Handles.{IsNewHandle}
 use Rattle.pool_threads.specs.declared.handle.Handle.{Handle}

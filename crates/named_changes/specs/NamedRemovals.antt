@@ -13,7 +13,7 @@ use Rattle.named_changes.specs.NamedPuts.{IsUnknown}
 use Rattle.named_changes.specs.TableReads.{ReadsTable}
 use Rattle.named_changes.specs.declared.steps.NameRefusal.{NameRefusal}
 use Rattle.named_changes.specs.declared.steps.NameRefusal.TheVariants.{Engine, Name}
-use Rattle.named_reads.specs.declared.causes.NameCause.TheVariants.{NoTable, Unknown}
+use Rattle.read_commands.specs.declared.name_causes.NameCause.TheVariants.{NoTable, Unknown}
 use Rattle.object_names.specs.NameTables.{IsNamed}
 use Rattle.pool_threads.specs.Answers.{Makes}
 use Rattle.pool_threads.specs.Handles.{IsNewHandle}

@@ -16,7 +16,7 @@ use Rattle.named_changes.specs.Refusals.{by_engine}
 use Rattle.named_changes.specs.declared.new_objects.NewObject.{NewObject}
 use Rattle.named_changes.specs.declared.steps.NameRefusal.{NameRefusal}
 use Rattle.named_changes.specs.declared.steps.NameRefusal.TheVariants.{Engine, Name}
-use Rattle.named_reads.specs.declared.causes.NameCause.TheVariants.{NoNumber}
+use Rattle.read_commands.specs.declared.name_causes.NameCause.TheVariants.{NoNumber}
 use Rattle.object_names.specs.NameTables.{IsFree, has_object}
 use Rattle.pool_threads.specs.Answers.{Makes}
 use Rattle.pool_threads.specs.LongWrites.{piece_size}

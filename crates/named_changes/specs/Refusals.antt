@@ -4,9 +4,9 @@ use Rattle.base.specs.declared.error.PoolError.{PoolError}
 use Rattle.commands.specs.Puts.{bad_number_of, is_target}
 use Rattle.named_changes.specs.declared.steps.NameRefusal.{NameRefusal}
 use Rattle.named_changes.specs.declared.steps.NameRefusal.TheVariants as refused
-use Rattle.named_reads.specs.declared.causes.NameCause.TheVariants.{NoName}
-use Rattle.named_reads.specs.declared.causes.NameFailure.{NameFailure}
-use Rattle.named_reads.specs.declared.causes.NameFailure.TheVariants.{Name, Plain}
+use Rattle.read_commands.specs.declared.name_causes.NameCause.TheVariants.{NoName}
+use Rattle.read_commands.specs.declared.name_causes.NameFailure.{NameFailure}
+use Rattle.read_commands.specs.declared.name_causes.NameFailure.TheVariants.{Name, Plain}
 use Rattle.object_names.specs.Names.{is_name}
 use Rattle.read_commands.specs.Failures.{IsFailureFor}
 use Rattle.read_commands.specs.declared.failure.Failure.TheVariants.{OutOfRange}

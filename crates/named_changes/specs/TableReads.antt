@@ -4,7 +4,7 @@ use Rattle.base.specs.declared.error.PoolError.{PoolError}
 use Rattle.commands.specs.Committed.{command_owner}
 use Rattle.device_model.specs.declared.device.SectorDevice.{Ghosts}
 use Rattle.named_changes.specs.NamedOps.{table_object}
-use Rattle.named_reads.specs.Tables.{IsTableRead, table_range}
+use Rattle.read_commands.specs.NamedTables.{IsTableRead, table_range}
 use Rattle.pool_threads.specs.Fetches.{Fetches}
 use Rattle.pool_threads.specs.declared.handle.Handle.{Handle}
 

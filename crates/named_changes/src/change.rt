@@ -7,12 +7,13 @@ use crate::removals::run_remove_named;
 use command_arguments::{ChangeCommand, Options, Terminals};
 use commands::{read_input, run_create_over, run_create_sized, run_put, run_remove};
 use file_devices::{Access, FileDevice, FileRefusal, HeldFile};
-use read_commands::open_within;
+use read_commands::{
+    ClearedWriter, ProgressLine, ShownDevice, ShownWork, open_within, shows_progress,
+};
 use std::io::{self, Eprint, Write};
 use std::os::unix::fs::FileExt;
 use std::rt::{Clock, Files};
 use std::sync::Wait;
-use terminal_progress::{ClearedWriter, ProgressLine, ShownDevice, ShownWork, shows_progress};
 
 /// Does a command that makes or changes a pool, and returns the exit status. A file that another process has is waited
 /// for as long as the options say. A put says on `errors` if it reads from a terminal, and its input is read before the

@@ -9,7 +9,7 @@ ghost use Rattle.std.specs.FinMap as finite;
 ghost use Rattle.base.specs.history.Contents.{Contents};
 ghost use Rattle.base.specs.history.History.{apply_all};
 ghost use Rattle.named_changes.specs.NamedOps.{naming_ops, removal_ops};
-ghost use Rattle.named_reads.specs.NamedObjects.{HasName};
+ghost use Rattle.read_commands.specs.NamedObjects.{HasName};
 ghost use Rattle.object_names.specs.Laws.{IsUnused};
 ghost use Rattle.object_names.specs.NameTables.{IsNameTable};
 ghost use Rattle.object_names.specs.Names.{IsName};

@@ -1,7 +1,7 @@
 //! The commands of the program `ztxg` that change objects by name: `put` and `rm` of `@NAME`. And the way from what was
 //! asked for to the command that makes or changes a pool, whichever it is.
 //!
-//! Names stand in object 0 (`docs/FORMATS.md`, "Names of objects"). The commands that read them are in `named_reads`.
+//! Names stand in object 0 (`docs/FORMATS.md`, "Names of objects"). The commands that read them are in `read_commands`.
 #![tactic(auto)]
 
 mod change;

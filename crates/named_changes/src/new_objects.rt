@@ -17,9 +17,9 @@ use crate::steps::{NameRefusal, by_engine, commit, slot_op};
 use base::{Bytes, ObjectId, Op, Ops, PoolError};
 use commands::{Put, Start, first_byte, first_refusal, lacks_room, write_rest};
 use device_model::SectorDevice;
-use named_reads::NameCause;
 use object_names::{NameTable, header_slot};
 use pool_threads::{Handle, PIECE_SIZE};
+use read_commands::NameCause;
 use std::alloc::{AllocError, Global};
 use std::sync::Wait;
 

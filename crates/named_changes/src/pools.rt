@@ -10,10 +10,9 @@ use crate::steps::NameRefusal;
 use base::{ObjectId, PoolError};
 use commands::OWNER;
 use device_model::SectorDevice;
-use named_reads::{NameFailure, TABLE_RANGE, table_of};
 use object_names::NameTable;
 use pool_threads::{Handle, Limits, Pool};
-use read_commands::{Failure, NotesRefusals};
+use read_commands::{Failure, NameFailure, NotesRefusals, TABLE_RANGE, table_of};
 use std::alloc::Global;
 use std::sync::Wait;
 

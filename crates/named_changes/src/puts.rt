@@ -11,7 +11,7 @@ ghost use Rattle.commands.specs.Puts.{is_target};
 ghost use Rattle.named_changes.specs.NamedCommands.{NamedPutEnds, PutsNamedAll, PutsNamedAndPrints, RefusesNamedPut};
 ghost use Rattle.named_changes.specs.NamedPuts.{PutsKnown, PutsNamed};
 ghost use Rattle.named_changes.specs.Refusals.{IsEarlyFailure, is_named_target};
-ghost use Rattle.named_reads.specs.NameFailures.{name_failure_status};
+ghost use Rattle.read_commands.specs.NameFailures.{name_failure_status};
 ghost use Rattle.object_names.specs.NameTables.{IsNamed};
 ghost use Rattle.object_names.specs.Names as names;
 ghost use Rattle.pool_threads.specs.Handles.{shared_of};
@@ -26,10 +26,11 @@ use commands::{
 };
 use device_model::SectorDevice;
 use file_devices::FileRefusal;
-use named_reads::{NameCause, NameFailure, report_name_failure};
 use object_names::is_object_name;
 use pool_threads::Pool;
-use read_commands::{Failure, NotesRefusals, report_failure};
+use read_commands::{
+    Failure, NameCause, NameFailure, NotesRefusals, report_failure, report_name_failure,
+};
 use std::alloc::Global;
 use std::io::{self, Write};
 use std::sync::Wait;

@@ -18,10 +18,11 @@ use command_arguments::{RemoveNamedArguments, Verbosity};
 use commands::first_refusal;
 use device_model::SectorDevice;
 use file_devices::FileRefusal;
-use named_reads::{NameCause, NameFailure, report_name_failure};
 use object_names::is_object_name;
 use pool_threads::{Handle, Pool};
-use read_commands::{Failure, NotesRefusals, report_failure};
+use read_commands::{
+    Failure, NameCause, NameFailure, NotesRefusals, report_failure, report_name_failure,
+};
 use std::alloc::{AllocError, Global};
 use std::io::Write;
 use std::sync::Wait;

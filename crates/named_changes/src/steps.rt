@@ -10,9 +10,9 @@ ghost use Rattle.pool_threads.specs.Transacts.{TransactsOrLacks};
 use base::{Bytes, ObjectId, Op, Ops, PoolError, Receipt};
 use commands::OWNER;
 use device_model::SectorDevice;
-use named_reads::NameCause;
 use object_names::{slot_of, slot_place};
 use pool_threads::Handle;
+use read_commands::NameCause;
 use std::alloc::{AllocError, Global};
 use std::sync::Wait;
 

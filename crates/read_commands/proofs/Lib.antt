@@ -7,3 +7,12 @@ mod PathReads
 pub mod PoolLines
 pub mod ScopedReads
 pub mod Undone
+mod ProgressTexts
+mod GotNames
+mod LinesWritten
+mod OpenedReads
+mod TableReads
+mod PrintedFindings
+mod PrintedLabels
+mod ReportClients
+mod WrittenLists

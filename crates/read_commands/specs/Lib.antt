@@ -8,3 +8,14 @@ pub mod Reads
 pub mod ReadScopes
 pub mod Scopes
 pub mod Undone
+pub mod ShownDevices
+pub mod ProgressLines
+pub mod Paces
+pub mod NameFailures
+pub mod NamedLines
+pub mod NamedObjects
+pub mod NamedTables
+pub mod Json
+pub mod JsonLabels
+pub mod ObjectBlocks
+pub mod Space

@@ -2,7 +2,11 @@
 //! alone. So it is refused as soon as that contract promises less.
 
 mod all_checks;
+mod named;
 mod objects;
+mod progress;
+mod report_checks;
+mod reports;
 
 ghost use Rattle.std.specs.Prelude.{◌≡◌, ◌≢◌, ◌⊎◌, ◌++◌, ℕ, List, [], IfErr, IfOk, IsOk, IsTrue, Some, codes};
 ghost use Rattle.base.specs.tree.Mount.{IsMounted, IsTreeDamaged, Mount, MountsTo};

@@ -8,8 +8,7 @@ use copies::run_copy;
 use file_devices::{Access, HeldFile};
 use loading::run_load;
 use named_changes::run_change;
-use read_commands::open_within;
-use report_commands::run_read;
+use read_commands::{open_within, run_read, shows_progress};
 use script_commands::run_named_script;
 use serving::{report_terminal, run_serve};
 use std::io::{self, Eprint, Write};
@@ -17,7 +16,6 @@ use std::os::unix::fs::FileExt;
 use std::rt::{Clock, Files};
 use std::sync::Wait;
 use std::thread::Threads;
-use terminal_progress::shows_progress;
 
 /// Does a command of the program, and returns the exit status. A file that another process has is waited for as long as
 /// the options say, and a script may wait for its pool. A load, a serve and a bench have threads. A load and those that

@@ -15,12 +15,12 @@ use crate::replacing::{has_pool, report_pool, run_create_over, run_create_sized}
 use command_arguments::{CreateArguments, SizedArguments};
 use device_model::SectorDevice;
 use file_devices::HeldFile;
+use read_commands::ShownWork;
 use std::alloc::Global;
 use std::io::{Eprint, Write};
 use std::os::unix::fs::FileExt;
 use std::rt::{Clock, Files};
 use std::sync::Wait;
-use terminal_progress::ShownWork;
 
 // A pool of 8 MiB whose name is that of the file.
 const OF_FILE: SizedArguments<'static> = SizedArguments {

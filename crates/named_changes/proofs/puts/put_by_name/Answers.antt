@@ -2,7 +2,7 @@ use Rattle.std.proofs.Common.{ℕ, List, None, Ok, Err, Some, ap, inl, inr, refl
 use Rattle.commands.specs.Committed.{nothing_put}
 use Rattle.named_changes.specs.NamedPuts.{IsUnknown}
 use Rattle.named_changes.specs.declared.steps.NameRefusal.TheVariants.{Engine, Name}
-use Rattle.named_reads.specs.declared.causes.NameCause.TheVariants.{NoTable}
+use Rattle.read_commands.specs.declared.name_causes.NameCause.TheVariants.{NoTable}
 use Rattle.object_names.specs.NameTables.{IsNamed}
 use Rattle.pool_threads.specs.Handles.{shared_of}
 use Rattle.named_changes.proofs.TableFound.{put_by_table}

@@ -1,4 +1,0 @@
-mod GotNames
-mod LinesWritten
-mod OpenedReads
-mod TableReads

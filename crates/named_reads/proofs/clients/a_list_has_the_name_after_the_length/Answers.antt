@@ -1,5 +1,0 @@
-use Rattle.named_reads.proofs.GotNames.{two_named}
-use Rattle.named_reads.proofs.clients.a_list_has_the_name_after_the_length.Goals as goal
-
-pub returns : goal.returns
-returns g c = λ zero keeps contents mounts are size named empty. two_named c.args.scope _ _ _ _ keeps contents mounts empty (c.run_list_named-status.ensures.listed zero) are size named

@@ -1,8 +1,0 @@
-use Rattle.std.proofs.lemmas.Result.{IfOk-weaker}
-use Rattle.read_commands.proofs.ScopedReads.{assured}
-use Rattle.named_reads.proofs.GotNames.{none_named}
-use Rattle.named_reads.proofs.clients.a_pool_without_an_object_0_has_a_table_without_names.Goals as goal
-
-pub returns : goal.returns
-returns g c = λ keeps contents mounts none.
-    IfOk-weaker c.read_table.result.0 _ _ (λ table is. none_named _ contents table is mounts none) (c.read_table.ensures.table (assured c.args.scope _ _ keeps (contents, mounts)))

@@ -1,4 +1,0 @@
-pub mod NameFailures
-pub mod NamedLines
-pub mod NamedObjects
-pub mod Tables

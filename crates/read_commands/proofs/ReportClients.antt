@@ -1,0 +1,102 @@
+-- What reports print of an image, where there were no bytes before: of one object of two bytes, of a pool's name, of its space, and of its labels.
+use Rattle.std.proofs.Common.{◌≡◌, ◌++◌, ap, length, map, ℕ, List, [], ◌∷◌, refl, subst, sym, ◌∙◌}
+use Rattle.std.specs.FinMap as finite
+use Rattle.std.specs.Fmt.{decimal, digits}
+use Rattle.std.specs.Io.KnownBytes.{Appends}
+use Rattle.std.specs.List.{flat_map}
+use Rattle.std.specs.Prelude.{Option, Some, codes}
+use Rattle.base.specs.tree.Mount.{MountsTo}
+use Rattle.base.specs.declared.names.ObjectId.{ObjectId}
+use Rattle.base.specs.formats.Geometry.{block_count}
+use Rattle.base.specs.formats.Limits.{one_level_length}
+use Rattle.base.specs.history.Contents.{Contents}
+use Rattle.inspections.specs.declared.inspection.Inspected.{Inspected}
+use Rattle.command_arguments.specs.declared.reports.Scope.{Scope}
+use Rattle.command_arguments.specs.declared.reports.SpaceUnit.TheVariants as unit
+use Rattle.read_commands.specs.Json.{json_listed, json_objects, json_shown}
+use Rattle.read_commands.specs.JsonLabels.{PrintsLabels, json_active, json_config, json_found_label, json_four, json_ring}
+use Rattle.read_commands.specs.ObjectBlocks.{long_line, long_lines}
+use Rattle.read_commands.specs.PoolLines.{WritesInspected}
+use Rattle.read_commands.specs.ReadScopes.{WritesObjects}
+use Rattle.read_commands.specs.Space.{amount_text, block_bytes, pool_space_lines, space_lines}
+use Rattle.read_commands.proofs.MountedBytes.{appended}
+use Rattle.read_commands.proofs.PoolLines.{told_of}
+use Rattle.read_commands.proofs.ScopedReads.{assured, seven_listed}
+
+-- what is printed of the objects is of this object alone
+two_told : (lines : List (ObjectId × ℕ) → List ℕ) (scope : Scope) (keeps : Type 0) (image : List ℕ) (before after : Option (List ℕ)) → keeps → (contents : Contents) → MountsTo image contents
+    → finite.entries contents.objects ≡ (7, 10 ∷ 11 ∷ []) ∷ [] → before ≡ Some [] → WritesObjects scope keeps image lines before after
+    → after ≡ Some (lines ((record { 0 = 7 }, 2) ∷ []))
+two_told lines scope keeps image before after kept contents mounts alone empty w =
+    appended after (lines w.objects) (subst (λ (b : Option (List ℕ)). Appends b after (lines w.objects)) empty w.writes)
+    ∙ ap (λ (l : List (ObjectId × ℕ)). Some (lines l)) (seven_listed image w.objects (w.mounted (assured scope keeps image kept (contents, mounts))) contents mounts alone)
+
+long_seven : long_lines ((record { 0 = 7 }, 2) ∷ []) ≡ codes "7 2 2\n"
+unfolding digits one_level_length
+long_seven = refl
+
+json_seven : json_listed ((record { 0 = 7 }, 2) ∷ []) ≡ codes "{\"objects\":[{\"object\":7,\"length\":2,\"blocks\":2}]}\n"
+unfolding digits one_level_length
+json_seven = refl
+
+-- the report of a pool of this name begins with it
+begins : (name rest more : List ℕ) → name ≡ codes "tank"
+    → (codes "{\"name\":\"" ++ (name ++ (codes "\",\"guid\":\"" ++ rest))) ++ more ≡ codes "{\"name\":\"tank\",\"guid\":\"" ++ (rest ++ more)
+begins name rest more tank = ap (λ (n : List ℕ). (codes "{\"name\":\"" ++ (n ++ (codes "\",\"guid\":\"" ++ rest))) ++ more) tank
+
+module _ (scope : Scope) (keeps : Type 0) (image : List ℕ) (before after : Option (List ℕ)) (kept : keeps) (contents : Contents) (mounts : MountsTo image contents) (empty : before ≡ Some []) where
+  pub long_told : finite.entries contents.objects ≡ (7, 10 ∷ 11 ∷ []) ∷ [] → WritesObjects scope keeps image long_lines before after → after ≡ Some (codes "7 2 2\n")
+  long_told alone w = two_told long_lines scope keeps image before after kept contents mounts alone empty w ∙ ap Some long_seven
+
+  pub json_told : finite.entries contents.objects ≡ (7, 10 ∷ 11 ∷ []) ∷ [] → WritesObjects scope keeps image json_listed before after
+      → after ≡ Some (codes "{\"objects\":[{\"object\":7,\"length\":2,\"blocks\":2}]}\n")
+  json_told alone w = two_told json_listed scope keeps image before after kept contents mounts alone empty w ∙ ap Some json_seven
+
+module _ (keeps : Type 0) (image : List ℕ) (before after : Option (List ℕ)) (kept : keeps) (contents : Contents) (mounts : MountsTo image contents) (empty : before ≡ Some []) where
+  -- what is printed of a pool of this name begins with it
+  pub json_named : contents.name ≡ codes "tank" → WritesInspected keeps image json_shown before after
+      → (rest : List ℕ) × (after ≡ Some (codes "{\"name\":\"tank\",\"guid\":\"" ++ rest))
+  json_named tank w =
+      let told = told_of image w.inspected (w.mounted kept) contents mounts in
+      let is = appended after (json_shown w.inspected) (subst (λ (b : Option (List ℕ)). Appends b after (json_shown w.inspected)) empty w.writes) in
+      (_, is ∙ ap Some (begins w.inspected.name _ (json_objects w.inspected.objects.items) (told.name_is ∙ tank)))
+
+-- the lines of a new pool of 8 MiB
+new_space : space_lines unit.Powers (record { total = 3670016; used = 0; free = 3670016; available = 3604480 }) ≡ codes "total 3.5M\nused 0\nfree 3.5M\navailable 3.4M\n"
+unfolding digits
+new_space = refl
+
+pub space_told : (before after : Option (List ℕ)) → before ≡ Some []
+    → Appends before after (space_lines unit.Powers (record { total = 3670016; used = 0; free = 3670016; available = 3604480 }))
+    → after ≡ Some (codes "total 3.5M\nused 0\nfree 3.5M\navailable 3.4M\n")
+space_told before after empty writes =
+    appended after _ (subst (λ (b : Option (List ℕ)). Appends b after (space_lines unit.Powers (record { total = 3670016; used = 0; free = 3670016; available = 3604480 }))) empty writes)
+    ∙ ap Some new_space
+
+-- the lines of the space of a pool of 896 blocks begin with it
+begins_with_total : (total : ℕ) (rest : List ℕ) → total ≡ 3670016 → codes "total " ++ (amount_text unit.Powers total ++ (codes "\nused " ++ rest)) ≡ codes "total 3.5M\nused " ++ rest
+unfolding digits
+begins_with_total total rest is = ap (λ (n : ℕ). codes "total " ++ (amount_text unit.Powers n ++ (codes "\nused " ++ rest))) is
+
+pub total_told : (keeps : Type 0) (image : List ℕ) (before after : Option (List ℕ)) → keeps → length image ≡ 8388608 → before ≡ Some []
+    → WritesInspected keeps image (pool_space_lines unit.Powers) before after → (rest : List ℕ) × (after ≡ Some (codes "total 3.5M\nused " ++ rest))
+total_told keeps image before after kept long empty w =
+    let (contents, told, mounted) = w.mounted kept in
+    let i = w.inspected in
+    let blocks : i.blocks ≡ 896 = sym mounted.blocks ∙ ap block_count long in
+    let is = appended after (pool_space_lines unit.Powers i) (subst (λ (b : Option (List ℕ)). Appends b after (pool_space_lines unit.Powers i)) empty w.writes) in
+    (_, is ∙ ap Some (begins_with_total (block_bytes i.blocks) _ (ap block_bytes blocks)))
+
+-- the labels begin with that of number 0
+zeroth_label : (config rest : List ℕ) → codes "{\"labels\":[" ++ ((codes "{\"label\":" ++ (decimal 0 ++ (codes ",\"config\":" ++ config))) ++ rest)
+    ≡ codes "{\"labels\":[{\"label\":0,\"config\":" ++ (config ++ rest)
+unfolding digits
+zeroth_label config rest = refl
+
+pub labels_told : (before after : Option (List ℕ)) → before ≡ Some [] → PrintsLabels before after → (rest : List ℕ) × (after ≡ Some (codes "{\"labels\":[{\"label\":0,\"config\":" ++ rest))
+labels_told before after empty p =
+    let text : List ℕ = json_four p.zeroth p.first p.second p.third p.active in
+    let config : List ℕ = json_config p.zeroth.config ++ (codes "," ++ (json_ring p.zeroth.count p.zeroth.highest ++ codes "}")) in
+    let rest : List ℕ = codes "," ++ (json_found_label 1 p.first ++ (codes "," ++ (json_found_label 2 p.second
+    ++ (codes "," ++ (json_found_label 3 p.third ++ (codes "],\"active\":" ++ (json_active p.active ++ codes "}\n"))))))) in
+    (config ++ rest, appended after text (subst (λ (b : Option (List ℕ)). Appends b after text) empty p.writes) ∙ ap Some (zeroth_label config rest))

@@ -1,0 +1,12 @@
+use Rattle.std.proofs.Common.{inr}
+use Rattle.std.proofs.lemmas.Result.{IfOk-weaker}
+use Rattle.read_commands.proofs.PrintedFindings.{finding_printed}
+use Rattle.read_commands.proofs.json_checks.run_json_check.Goals as goal
+
+pub returns-in-Ok-writeln-clause-clean : goal.returns-in-Ok-writeln-clause-clean
+returns-in-Ok-writeln-clause-clean g c = λ zero.
+    finding_printed g.D.SectorDevice c.args.opened.now c.in-Ok.finding c.status.result 0 _ _ c.in-Ok-writeln.ensures.bytes c.status.ensures c.in-Ok.ensures.found zero
+
+pub returns-in-Ok-writeln-clause-damaged : goal.returns-in-Ok-writeln-clause-damaged
+returns-in-Ok-writeln-clause-damaged g c = λ one. IfOk-weaker c.args.opened.now _ _ (λ device written. inr written)
+    (finding_printed g.D.SectorDevice c.args.opened.now c.in-Ok.finding c.status.result 1 _ _ c.in-Ok-writeln.ensures.bytes c.status.ensures c.in-Ok.ensures.found one)

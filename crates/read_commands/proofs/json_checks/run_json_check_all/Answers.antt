@@ -1,0 +1,12 @@
+use Rattle.read_commands.proofs.PrintedFindings.{all_printed, printed_or_same}
+use Rattle.read_commands.proofs.json_checks.run_json_check_all.Goals as goal
+
+pub returns-in-Ok-write_found-clause-clean : goal.returns-in-Ok-write_found-clause-clean
+returns-in-Ok-write_found-clause-clean g c = λ zero.
+    all_printed g.D.SectorDevice c.in-Ok.found.findings.items c.in-Ok.found.labels c.status.result (g.W.Write.contents c.args.out.now) (g.W.Write.contents c.write_found.new.out)
+    c.in-Ok-write_found.ensures c.status.ensures c.args.opened.now c.in-Ok.ensures.found c.in-Ok.ensures.labels 0 zero
+
+pub returns-in-Ok-write_found-clause-damaged : goal.returns-in-Ok-write_found-clause-damaged
+returns-in-Ok-write_found-clause-damaged g c = λ one.
+    printed_or_same g.D.SectorDevice c.in-Ok.found.findings.items c.in-Ok.found.labels c.status.result (g.W.Write.contents c.args.out.now) (g.W.Write.contents c.write_found.new.out)
+    c.in-Ok-write_found.ensures c.status.ensures c.args.opened.now c.in-Ok.ensures.found c.in-Ok.ensures.labels 1 one

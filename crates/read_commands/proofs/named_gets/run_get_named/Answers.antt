@@ -1,0 +1,17 @@
+use Rattle.std.proofs.Common.{subst}
+use Rattle.std.specs.Prelude.{IfOk}
+use Rattle.base.specs.disk.Disk.{bytes_of}
+use Rattle.read_commands.specs.NamedObjects.{IsCheckedName, IsMountedName, named_range}
+use Rattle.read_commands.proofs.OpenedReads.{named_written}
+use Rattle.read_commands.proofs.named_gets.run_get_named.Goals as goal
+
+pub returns-in-Ok-found-clause-written : goal.returns-in-Ok-found-clause-written
+returns-in-Ok-found-clause-written g c = λ zero.
+    let D = g.D.SectorDevice in
+    let name = c.args.arguments.name.now in
+    let look = c.find_object-found in
+    named_written D c.args.opened c.in-Ok.device look.result.1 c.in-Ok.is look.ensures.only_read c.args.scope name c.in-Ok-found.object.0 (named_range c.args.arguments)
+    (g.W.Write.contents c.args.out.now) (g.W.Write.contents c.run_get.new.out)
+    (λ assured. subst (λ r. IfOk r (λ n. IsMountedName (bytes_of (D.disk c.in-Ok.device).now) name n.0)) c.in-Ok-found.is (look.ensures.found assured))
+    (λ path keeps. subst (λ r. IfOk r (λ n. IsCheckedName (bytes_of (D.disk c.in-Ok.device).now) name n.0)) c.in-Ok-found.is (look.ensures.checked path keeps))
+    (c.run_get.ensures.written zero)

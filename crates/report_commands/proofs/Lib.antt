@@ -1,4 +1,0 @@
-mod PrintedFindings
-mod PrintedLabels
-mod ReportClients
-mod WrittenLists

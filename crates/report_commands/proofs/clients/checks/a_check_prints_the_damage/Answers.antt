@@ -1,5 +1,0 @@
-use Rattle.report_commands.proofs.PrintedFindings.{damage_as_json}
-use Rattle.report_commands.proofs.clients.checks.a_check_prints_the_damage.Goals as goal
-
-pub returns : goal.returns
-returns g c = λ one keeps alone empty. damage_as_json _ _ _ _ keeps alone empty (c.run_json_check.ensures.damaged one)

@@ -1,6 +1,0 @@
-use Rattle.std.proofs.lemmas.Result.{on_ok_weaker}
-use Rattle.report_commands.proofs.ReportClients.{space_told}
-use Rattle.report_commands.proofs.clients.the_space_of_a_new_pool_is_3_megabytes_and_a_half.Goals as goal
-
-pub returns : goal.returns
-returns g c = on_ok_weaker c.write_space.result (λ writes empty. space_told _ _ empty writes) c.write_space.ensures

@@ -1,4 +1,0 @@
-pub mod Json
-pub mod JsonLabels
-pub mod ObjectBlocks
-pub mod Space
