@@ -8,3 +8,7 @@ mod PutClients
 mod PutRoom
 mod RefusedClients
 mod Replaced
+mod OneEntries
+mod NamedContents
+mod NewPieces
+mod TableFound

@@ -4,3 +4,12 @@ pub mod NewPools
 pub mod PutRoom
 pub mod Puts
 pub mod Replaced
+pub mod NamedLaws
+pub mod NamedCommands
+pub mod NamedOps
+pub mod NamedPuts
+pub mod NamedRemovals
+pub mod NewHandles
+pub mod NewObjects
+pub mod NameRefusals
+pub mod TableReads

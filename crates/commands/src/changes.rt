@@ -39,7 +39,7 @@ use std::sync::Wait;
 pub const OWNER: Owner = Owner(0);
 
 /// What is printed of standard input as a file.
-pub const STANDARD_INPUT: &str = "-";
+pub(crate) const STANDARD_INPUT: &str = "-";
 
 /// The bytes of an input up to its end, or one more than an object may have.
 ///
@@ -56,7 +56,7 @@ pub fn read_input<R: Read + Drop>(alloc: Global, input: R) -> io::Result<Vec<u8>
 
 /// What a put has committed. As text it is how many bytes in how many transactions.
 #[derive(Clone, Copy)]
-pub struct Put {
+pub(crate) struct Put {
     /// The bytes.
     pub bytes: u64,
     /// The transactions.
@@ -231,7 +231,7 @@ fn report_put<W: Write, E: Write>(
 }
 
 /// Reports on `errors` what a put has committed before it was refused, if that is anything.
-pub fn report_committed<E: Write>(put: &Put, errors: &mut E) {
+pub(crate) fn report_committed<E: Write>(put: &Put, errors: &mut E) {
     if put.transactions == 0 {
         return;
     }
@@ -300,7 +300,7 @@ fn put_and_leave<R: Wait, D: SectorDevice>(
 }
 
 /// Whether an object of this number may have these bytes at this offset, or at its start if none is given.
-pub fn is_target(object: u32, offset: Option<u64>, bytes: &[u8]) -> bool
+pub(crate) fn is_target(object: u32, offset: Option<u64>, bytes: &[u8]) -> bool
     ensures { result ≡ is_target object offset bytes.now }
 {
     let at = first_byte(offset);
@@ -308,7 +308,7 @@ pub fn is_target(object: u32, offset: Option<u64>, bytes: &[u8]) -> bool
 }
 
 /// What is outside its limits, if an object of this number may not have these bytes there.
-pub fn bad_number_of(object: u32, offset: Option<u64>, bytes: &[u8]) -> BadNumber
+pub(crate) fn bad_number_of(object: u32, offset: Option<u64>, bytes: &[u8]) -> BadNumber
     ensures { result ≡ bad_number_of object offset bytes.now }
 {
     let (at, size) = (first_byte(offset), bytes.len() as u64);
@@ -325,7 +325,7 @@ pub fn bad_number_of(object: u32, offset: Option<u64>, bytes: &[u8]) -> BadNumbe
 }
 
 /// The first byte that a put writes: its offset, or byte 0 if none is given.
-pub fn first_byte(offset: Option<u64>) -> u64
+pub(crate) fn first_byte(offset: Option<u64>) -> u64
     ensures { result ≡ first_byte offset }
 {
     match offset {
@@ -336,7 +336,7 @@ pub fn first_byte(offset: Option<u64>) -> u64
 
 /// Where bytes go: to a place of an object, or in place of all that it has.
 #[derive(Clone, Copy)]
-pub struct Target {
+pub(crate) struct Target {
     /// The object.
     pub object: ObjectId,
     /// The first byte, if they don't replace all.
@@ -345,7 +345,7 @@ pub struct Target {
 
 /// What the first transaction does to the object before it writes.
 #[derive(Clone, Copy)]
-pub enum Start {
+pub(crate) enum Start {
     /// It makes the object.
     Creates,
     /// It sets its length to 0.
@@ -366,7 +366,7 @@ impl Start {
 
 /// Puts bytes into an object by a handle of the pool, and syncs the pool, also after a refusal. It returns what was
 /// committed, and the first refusal. The object is made if it isn't there. Without room for all bytes it puts none.
-pub fn put_and_sync<R: Wait, D: SectorDevice>(
+pub(crate) fn put_and_sync<R: Wait, D: SectorDevice>(
     rt: &R,
     alloc: Global,
     handle: &mut Handle<'_, D>,
@@ -396,7 +396,7 @@ pub fn put_and_sync<R: Wait, D: SectorDevice>(
 }
 
 /// The first refusal of transactions and of the sync after them.
-pub fn first_refusal(
+pub(crate) fn first_refusal(
     made: Result<(), PoolError>,
     synced: Result<Group, PoolError>,
 ) -> Result<(), PoolError>
@@ -451,7 +451,7 @@ fn put_pieces<R: Wait, D: SectorDevice>(
 
 /// Writes bytes to an object from this place on, each piece of them in a transaction of its own, if there are any. Returns
 /// what was committed, not synced, and the first refusal.
-pub fn write_rest<R: Wait, D: SectorDevice>(
+pub(crate) fn write_rest<R: Wait, D: SectorDevice>(
     rt: &R,
     handle: &mut Handle<'_, D>,
     object: ObjectId,

@@ -2,6 +2,9 @@
 //! alone. So it is refused as soon as that contract promises less.
 
 mod left_devices;
+mod named;
+mod named_objects;
+mod named_refusals;
 mod objects;
 mod parts;
 mod refusals;

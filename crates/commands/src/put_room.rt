@@ -21,7 +21,7 @@ const CHANGED_BLOCKS: u64 = 2;
 
 /// Whether a put that starts so lacks room for these bytes: it needs more blocks than are available, and than the
 /// object gives back that was found with this length, if it was.
-pub fn lacks_room(
+pub(crate) fn lacks_room(
     start: Start,
     offset: Option<u64>,
     bytes: &[u8],

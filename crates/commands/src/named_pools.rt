@@ -1,0 +1,66 @@
+//! The pool that a command by name opens, its table of names, and why the command was not done once it is closed.
+
+ghost use Rattle.std.specs.Prelude.{◌≡◌, IfErr, IfOk, IsTrue};
+ghost use Rattle.commands.specs.Committed.{FailsToOpen, default_dirty_max};
+ghost use Rattle.commands.specs.NameRefusals.{IsNameFailureFor};
+ghost use Rattle.commands.specs.TableReads.{ReadsTable};
+ghost use Rattle.pool_threads.specs.Handles.{OpensBehind, opening_view, shared_of};
+
+use crate::changes::OWNER;
+use crate::named_steps::NameRefusal;
+use base::{ObjectId, PoolError};
+use device_model::SectorDevice;
+use object_names::NameTable;
+use pool_threads::{Handle, Limits, Pool};
+use read_commands::{Failure, NameFailure, NotesRefusals, TABLE_RANGE, table_of};
+use std::alloc::Global;
+use std::sync::Wait;
+
+/// Opens the pool on a device.
+///
+/// # Errors
+/// The refusal of the import, with the call that the device refused, if it was for that.
+pub(crate) fn open_pool<D: SectorDevice + NotesRefusals + Drop>(
+    alloc: Global,
+    device: D,
+    moment: u64,
+) -> Result<Pool<D>, Failure>
+    ensures opened { IfOk result (λ p. OpensBehind (IsTrue D.keeps_model) (D.disk device)
+        default_dirty_max (opening_view (shared_of p))) }
+    ensures failed { IfErr result (FailsToOpen D.SectorDevice device moment) }
+{
+    match Pool::open(alloc, device, Limits::DEFAULT, moment) {
+        Ok(pool) => Ok(pool),
+        Err((refusal, device)) => Err(Failure::of_pool(refusal, &device)),
+    }
+}
+
+/// Why a command was not done on a pool that refused it while it ran. The pool is closed.
+pub(crate) fn failure_of<D: SectorDevice + NotesRefusals + Drop>(
+    refusal: NameRefusal,
+    pool: Pool<D>,
+) -> NameFailure
+    ensures { IsNameFailureFor refusal result }
+{
+    match refusal {
+        NameRefusal::Name(cause) => NameFailure::Name(cause),
+        NameRefusal::Engine(refusal) => {
+            let device = pool.close().map(|state| state.into_device());
+            NameFailure::Plain(Failure::of_closed(refusal, &device))
+        }
+    }
+}
+
+/// The table of names of a pool that runs. `None` if object 0 is of another use.
+///
+/// # Errors
+/// Those of a read of object 0, but for `NoObject`.
+pub(crate) fn fetch_table<R: Wait, D: SectorDevice>(
+    rt: &R,
+    alloc: Global,
+    handle: &mut Handle<'_, D>,
+) -> Result<Option<NameTable>, PoolError>
+    ensures { ReadsTable result handle.old handle.new }
+{
+    table_of(alloc, handle.fetch(rt, OWNER, ObjectId(0), TABLE_RANGE))
+}

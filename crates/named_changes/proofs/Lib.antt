@@ -1,4 +1,0 @@
-mod OneEntries
-mod NamedContents
-mod NewPieces
-mod TableFound

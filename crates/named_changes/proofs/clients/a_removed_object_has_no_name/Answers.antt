@@ -1,5 +1,0 @@
-use Rattle.named_changes.proofs.OneEntries.{seven_unnamed}
-use Rattle.named_changes.proofs.clients.a_removed_object_has_no_name.Goals as goal
-
-pub returns : goal.returns
-returns c = seven_unnamed c.removed_names_are_gone.ensures

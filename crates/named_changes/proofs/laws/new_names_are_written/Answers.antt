@@ -1,5 +1,0 @@
-use Rattle.named_changes.proofs.NamedContents.{new_names_are_written}
-use Rattle.named_changes.proofs.laws.new_names_are_written.Goals as goal
-
-pub returns : goal.returns
-returns c = new_names_are_written
