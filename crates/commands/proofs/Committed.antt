@@ -30,7 +30,7 @@ use Rattle.pool_threads.proofs.Along.{GoesAlong, along_made, along_on, along_sam
 use Rattle.pool_threads.proofs.TransactsSeen.{entered_by, transaction_grows}
 use Rattle.transactions.specs.LockRanges.{lock_ranges}
 use Rattle.durable_answers.proofs.Along.{along_syncs, along_transacts}
-use Rattle.closed_pools.proofs.Sounds.{IsSound, durable_after, sound_on}
+use Rattle.running_pools.proofs.Sounds.{IsSound, durable_after, sound_on}
 use Rattle.commands.specs.Committed.{AreEntered, AreNewEntries, HappensOn, MakesFirst, PutsAsFound, PutsBy, PutsFrom, PutsIfRoom, PutsOn, RemovesOn, SyncsAfter, SyncsIfMade, command_owner, result_after}
 use Rattle.commands.specs.PutRoom.{lacks_room}
 use Rattle.commands.specs.Puts.{IsStartFor, put_transactions, start_of}

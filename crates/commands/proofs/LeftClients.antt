@@ -12,7 +12,7 @@ use Rattle.base.specs.kept.LeftDisks.{IsLeft}
 use Rattle.base.specs.steps.Explains.{IsLeftBy, MountsToCut}
 use Rattle.base.specs.tree.Mount.{MountsTo}
 use Rattle.base.proofs.crash.MountLaws.{own_disks_mount}
-use Rattle.closed_pools.specs.LeftDevices.{HoldsContents, IsLeftUpon, LeavesContents, StillHolds}
+use Rattle.running_pools.specs.LeftDevices.{HoldsContents, IsLeftUpon, LeavesContents, StillHolds}
 use Rattle.device_model.specs.declared.device.SectorDevice.{Ghosts}
 use Rattle.import_replay.specs.OwnCreations.{first_contents}
 use Rattle.pool_threads.specs.Handles.{LeavesSame}

@@ -36,11 +36,11 @@ use Rattle.pool_threads.specs.Waits.{SyncsPool}
 use Rattle.pool_threads.proofs.AloneSteps.{step_at_once}
 use Rattle.pool_threads.proofs.Along.{GoesAlong, along_made, along_on, along_same}
 use Rattle.durable_answers.proofs.Along.{along_syncs}
-use Rattle.closed_pools.specs.LeftDevices.{ClosesAfter, HoldsContents, StillHolds}
-use Rattle.closed_pools.proofs.Adds.{Adds, AddsAlone, alone_on, alone_same, made_alone, past_seen, same_entries, synced_alone, transacted_alone}
-use Rattle.closed_pools.proofs.Cuts.{Preserves, kept_by_all}
-use Rattle.closed_pools.proofs.LeftDevices.{alone_keeps, alone_leaves, found_so, only_number, only_was_of}
-use Rattle.closed_pools.proofs.Sounds.{AllAcknowledged, IsSound, all_acknowledged, durable_after, sound_on}
+use Rattle.running_pools.specs.LeftDevices.{ClosesAfter, HoldsContents, StillHolds}
+use Rattle.running_pools.proofs.Adds.{Adds, AddsAlone, alone_on, alone_same, made_alone, past_seen, same_entries, synced_alone, transacted_alone}
+use Rattle.running_pools.proofs.Cuts.{Preserves, kept_by_all}
+use Rattle.running_pools.proofs.LeftDevices.{alone_keeps, alone_leaves, found_so, only_number, only_was_of}
+use Rattle.running_pools.proofs.Sounds.{AllAcknowledged, IsSound, all_acknowledged, durable_after, sound_on}
 use Rattle.commands.specs.Committed.{MakesFirst, PutsAndLeaves, PutsAsFound, PutsBy, PutsFrom, PutsIfRoom, RemovesAndLeaves, RemovesFrom, SyncsAfter, SyncsIfMade, command_owner, result_after}
 use Rattle.commands.specs.LeftContents.{HasPut, HasRemoved, KeepsOthers}
 use Rattle.commands.specs.PutRoom.{lacks_room}

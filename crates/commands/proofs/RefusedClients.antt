@@ -19,7 +19,7 @@ use Rattle.device_model.specs.declared.device.SectorDevice.{Ghosts}
 use Rattle.import_replay.specs.ImportRefusals.{IsImportRefusal}
 use Rattle.pool_threads.specs.Answers.{Makes}
 use Rattle.pool_threads.specs.Handles.{LeavesSame}
-use Rattle.closed_pools.specs.LeftDevices.{IsOnlyHandle}
+use Rattle.running_pools.specs.LeftDevices.{IsOnlyHandle}
 use Rattle.pool_threads.specs.Transacts.{TransactsOrLacks}
 use Rattle.pool_threads.specs.Waits.{SyncsPool}
 use Rattle.pool_threads.specs.declared.handle.Handle.{Handle}

@@ -28,7 +28,7 @@ use Rattle.pool_threads.specs.Handles.{IsLeftBehind, IsLeftByOpen, LeavesSame, O
 use Rattle.pool_threads.specs.LongWrites.{piece_size}
 use Rattle.pool_threads.specs.Transacts.{TransactsOrLacks}
 use Rattle.pool_threads.specs.Waits.{SyncsPool}
-use Rattle.closed_pools.specs.LeftDevices.{IsOnlyHandle}
+use Rattle.running_pools.specs.LeftDevices.{IsOnlyHandle}
 use Rattle.read_commands.specs.Failures.{IsFailureFor}
 use Rattle.commands.specs.PutRoom.{lacks_room}
 use Rattle.commands.specs.Puts.{bad_number_of, is_target, put_line, put_transactions, start_of}

@@ -3,7 +3,7 @@ use Rattle.std.specs.Prelude.{ℕ, ◌≡◌, ◌≢◌, List, None, Ok, Err, Op
 use Rattle.std.specs.FinMap as map
 use Rattle.base.specs.declared.names.ObjectId.{ObjectId}
 use Rattle.base.specs.history.Contents.{Contents}
-use Rattle.closed_pools.specs.LeftDevices.{HoldsContents, StillHolds}
+use Rattle.running_pools.specs.LeftDevices.{HoldsContents, StillHolds}
 use Rattle.device_model.specs.declared.device.SectorDevice.{Ghosts}
 use Rattle.commands.specs.Puts.{bytes_put}
 use Rattle.read_commands.specs.declared.failure.Failure.{Failure}

@@ -10,7 +10,7 @@ ghost use Rattle.std.specs.Io.KnownBytes.{Appends};
 ghost use Rattle.std.specs.Prelude.{◌≡◌, ◌≢◌, ◌≤◌, ◌<◌, ◌+◌, ◌*◌, ◌/◌, ◌^◌, ◌∷◌, [], false, true, length, min, take, Err, IfErr, IfOk, IfSome, IsErr, IsOk};
 ghost use Rattle.base.specs.declared.operation.Op.TheVariants.{Remove};
 ghost use Rattle.base.specs.formats.Limits.{max_length};
-ghost use Rattle.closed_pools.specs.LeftDevices.{HoldsContents, IsOnlyHandle, StillHolds};
+ghost use Rattle.running_pools.specs.LeftDevices.{HoldsContents, IsOnlyHandle, StillHolds};
 ghost use Rattle.commands.specs.Committed.{MakesFirst, PutsAll, PutsAndLeaves, PutsAndPrints, PutsBy, PutsOrFails, RefusesPut, RefusesRemoval, RemovesAndLeaves, RemovesOn, RemovesOrFails, command_owner, nothing_put, result_after};
 ghost use Rattle.commands.specs.LeftContents.{HasPut, HasRemoved, KeepsOthers, LeavesDevice};
 ghost use Rattle.commands.specs.Puts.{bad_number_of, first_byte, is_target, piece_ops, put_line, put_transactions, removed_line, rest_transactions, start_of};
@@ -24,12 +24,12 @@ use base::{
     Bytes, DEFAULT_DIRTY_MAX, Group, MAX_LENGTH, OBJECT_COUNT, ObjectId, Op, Ops, Owner, PoolError,
     Receipt,
 };
-use closed_pools::{close_alone, open_alone};
 use command_arguments::{PutArguments, RemoveArguments, Verbosity};
 use device_model::SectorDevice;
 use file_devices::FileRefusal;
 use pool_threads::{Handle, LastSeen, OwnedPool, PIECE_SIZE};
 use read_commands::{BadNumber, Failure, NotesRefusals, report_failure};
+use running_pools::{close_alone, open_alone};
 use std::alloc::{AllocError, Global};
 use std::fmt;
 use std::io::{self, Read, Write};

@@ -13,11 +13,11 @@ use Rattle.base.specs.history.Sequences.{in_turn}
 use Rattle.base.specs.kept.LeftDisks.{IsLeft}
 use Rattle.base.specs.steps.Explains.{AreSafe, IsLeftBy}
 use Rattle.base.proofs.common.KeptLists.{none_at}
-use Rattle.closed_pools.specs.LeftDevices.{ClosesAfter, IsOnlyHandle}
-use Rattle.closed_pools.proofs.Adds.{AddsAlone, alone_on, alone_same, ops_of, past_seen, same_entries, synced_alone, transacted_alone}
-use Rattle.closed_pools.proofs.Cuts.{replays_all}
-use Rattle.closed_pools.proofs.LeftDevices.{alone_leaves}
-use Rattle.closed_pools.proofs.Sounds.{AllAcknowledged, IsSound, all_acknowledged, durable_after, sound_on}
+use Rattle.running_pools.specs.LeftDevices.{ClosesAfter, IsOnlyHandle}
+use Rattle.running_pools.proofs.Adds.{AddsAlone, alone_on, alone_same, ops_of, past_seen, same_entries, synced_alone, transacted_alone}
+use Rattle.running_pools.proofs.Cuts.{replays_all}
+use Rattle.running_pools.proofs.LeftDevices.{alone_leaves}
+use Rattle.running_pools.proofs.Sounds.{AllAcknowledged, IsSound, all_acknowledged, durable_after, sound_on}
 use Rattle.commands.specs.Committed.{command_owner}
 use Rattle.commands.proofs.Committed.{sound_first}
 use Rattle.device_model.specs.declared.device.SectorDevice.{Ghosts}

@@ -12,7 +12,7 @@ use Rattle.base.specs.history.Past.{Past}
 use Rattle.base.specs.history.Sequences.{in_turn}
 use Rattle.base.specs.kept.LeftDisks.{IsLeft}
 use Rattle.base.specs.steps.Explains.{AreSafe, IsLeftBy}
-use Rattle.closed_pools.specs.LeftDevices.{IsOnlyHandle}
+use Rattle.running_pools.specs.LeftDevices.{IsOnlyHandle}
 use Rattle.device_model.specs.declared.device.SectorDevice.{Ghosts}
 use Rattle.import_replay.specs.OwnCreations.{first_contents}
 use Rattle.pool_threads.specs.declared.handle.Handle.{Handle}

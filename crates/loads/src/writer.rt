@@ -9,8 +9,8 @@ use crate::words::{PART, SHARED, Word, Words};
 use base::{Bytes, Mode, ObjectId, Op, Ops, Owner, PoolError, Range, Receipt};
 use command_arguments::{Order, STREAMS};
 use device_model::SectorDevice;
-use pool_loops::Halt;
 use pool_threads::{Handle, Pool};
+use running_pools::Halt;
 use std::alloc::Global;
 use std::sync::Wait;
 

@@ -10,8 +10,8 @@ use Rattle.base.specs.history.Past.{Past}
 use Rattle.base.specs.kept.LeftDisks.{IsLeft}
 use Rattle.base.specs.steps.Explains.{IsLeftBy, MountsToCut}
 use Rattle.base.specs.tree.Mount.{MountsTo}
-use Rattle.closed_pools.specs.LeftDevices.{HasAllOf, HoldsRunUpon, IsLeftUpon}
-use Rattle.closed_pools.proofs.Cuts.{marked}
+use Rattle.running_pools.specs.LeftDevices.{HasAllOf, HoldsRunUpon, IsLeftUpon}
+use Rattle.running_pools.proofs.Cuts.{marked}
 use Rattle.command_arguments.specs.declared.arguments.ServeArguments.{ServeArguments}
 use Rattle.device_model.specs.declared.device.SectorDevice.{Ghosts}
 use Rattle.frame_answers.specs.Serving.{AnswersFrames, Exchange, Streams, program}

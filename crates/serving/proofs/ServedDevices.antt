@@ -37,9 +37,9 @@ use Rattle.pool_threads.specs.Views.{IsFollowed, SeenPool, since, viewed_state}
 use Rattle.pool_threads.specs.Waits.{AreDurable, SyncsPool}
 use Rattle.pool_threads.proofs.Along.{GoesAlong, along_made, along_on, along_same}
 use Rattle.command_arguments.specs.declared.arguments.ServeArguments.{ServeArguments}
-use Rattle.closed_pools.specs.LeftDevices.{ClosesAfter, HasAllOf, HoldsRunUpon}
-use Rattle.closed_pools.proofs.LeftDevices.{ComesTo, IsSoOn, left_upon, was_of}
-use Rattle.closed_pools.proofs.Sounds.{IsSound, acknowledged_now, durable_after, sound_on}
+use Rattle.running_pools.specs.LeftDevices.{ClosesAfter, HasAllOf, HoldsRunUpon}
+use Rattle.running_pools.proofs.LeftDevices.{ComesTo, IsSoOn, left_upon, was_of}
+use Rattle.running_pools.proofs.Sounds.{IsSound, acknowledged_now, durable_after, sound_on}
 use Rattle.serving.specs.Serving.{AnswersInput, OpensOn, ServesAndCloses, ServesAndHolds, ServesAndLeaves}
 
 -- a view of a pool that was just imported is sound, if its contents are within the limits

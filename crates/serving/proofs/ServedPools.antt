@@ -23,8 +23,8 @@ use Rattle.pool_threads.specs.declared.shared.Shared.{Shared}
 use Rattle.read_commands.specs.Failures.{IsFailureFor, failure_status, refusal_of}
 use Rattle.read_commands.specs.declared.failure.Failure.{Failure}
 use Rattle.read_commands.specs.declared.failure.Failure.TheVariants as failure
-use Rattle.closed_pools.specs.LeftDevices.{Closes, ClosesAfter, LosesNothing}
-use Rattle.closed_pools.proofs.LeftDevices.{closed_still, just_closes}
+use Rattle.running_pools.specs.LeftDevices.{Closes, ClosesAfter, LosesNothing}
+use Rattle.running_pools.proofs.LeftDevices.{closed_still, just_closes}
 use Rattle.serving.specs.Serving.{AnswersInput, GivesOrRefuses, IsUnopened, OpensOn, RefusesToServe, SaysUnopened, ServesAndCloses, ServesAndHolds, ServesAndLeaves, ServesOn, ServesOrRefuses, ServesPool, StaysUnopened, StopsAtOpening, opening_of}
 use Rattle.serving.proofs.ServedDevices.{closed_holds}
 use Rattle.command_arguments.specs.declared.arguments.ServeArguments.{ServeArguments}

@@ -13,7 +13,7 @@ use Rattle.frame_answers.specs.declared.serving.Ending.TheVariants.{Done}
 use Rattle.frames.specs.Openings.{bytes_of_opening, bytes_of_unopened}
 use Rattle.frames.specs.declared.opening.Opening.{Opening}
 use Rattle.import_replay.specs.ImportRefusals.{IsImportRefusal}
-use Rattle.closed_pools.specs.LeftDevices.{ClosesAfter, HasAllOf, HoldsRunUpon}
+use Rattle.running_pools.specs.LeftDevices.{ClosesAfter, HasAllOf, HoldsRunUpon}
 use Rattle.pool_threads.specs.Answers.{state_seen}
 use Rattle.pool_threads.specs.Handles.{IsLeftBehind, IsNewHandle, OpensBehind, ShowsImport, moment_in, opened_in, opening_view, shared_of}
 use Rattle.pool_threads.specs.declared.handle.Handle.{Handle}

@@ -2,21 +2,20 @@
 //! the engine. The loops that sync the pool run beside it, each in a thread of its own.
 
 ghost use Rattle.std.specs.Prelude.{◌≡◌, ◌≢◌, ◌≤◌, Err, IfErr, IfOk, IfSome, IsErr, IsOk, IsSome, Ok};
-ghost use Rattle.closed_pools.specs.LeftDevices.{Closes, LosesNothing};
+ghost use Rattle.running_pools.specs.LeftDevices.{Closes, LosesNothing};
 ghost use Rattle.serving.specs.Serving.{GivesOrRefuses, IsUnopened, OpensOn, ServesAndCloses, ServesAndLeaves, ServesOrRefuses, opening_of};
 ghost use Rattle.frames.specs.Openings.{bytes_of_opening};
 ghost use Rattle.pool_threads.specs.Handles.{opened_in, shared_of};
 
 use crate::unopened::{write_opening, write_unopened};
 use base::PoolError;
-use closed_pools::{close, close_after};
 use command_arguments::{ServeArguments, Verbosity};
 use device_model::SectorDevice;
 use file_devices::FileRefusal;
 use frame_answers::{AnswerWriter, Ending, serve};
-use pool_loops::{Halt, work_beside_loops};
 use pool_threads::{LastSeen, Limits, Pool};
 use read_commands::{BadNumber, Failure, NotesRefusals, report_failure};
+use running_pools::{Halt, close, close_after, work_beside_loops};
 use script_lines::FAILED;
 use std::alloc::Global;
 use std::io::{Read, Write};

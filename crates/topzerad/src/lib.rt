@@ -104,10 +104,10 @@ pub use inspections::{Inspected, Soundness, View, find_damages, inspect, view_po
 pub use mounted::Mounted;
 pub use object_views::{ListedPool, ObjectView, PoolPaths, find_paths, list_pool, view_object};
 pub use pool_core::{Duty, PoolState, Progress, run};
-pub use pool_loops::{Halt, run_beside_loops};
 pub use pool_threads::{Handle, Opened, PIECE_SIZE, Pool};
 pub use range_locks::{HeldLock, HeldLocks, HeldPiece};
 pub use records::record_size;
+pub use running_pools::{Halt, run_beside_loops};
 pub use transactions::{charge, is_plan_allowed};
 pub use trees::BlockDamage;
 

@@ -12,7 +12,7 @@ ghost use Rattle.base.specs.declared.step.Step.TheVariants as step;
 ghost use Rattle.base.specs.disk.Calls.{with_refusal};
 ghost use Rattle.base.specs.history.History.{Entry};
 ghost use Rattle.base.specs.steps.Seen.{IsKnownDurable};
-ghost use Rattle.closed_pools.specs.LeftDevices.{IsOnlyHandle};
+ghost use Rattle.running_pools.specs.LeftDevices.{IsOnlyHandle};
 ghost use Rattle.commands.specs.Committed.{HappensOn, IsOpenedOn};
 ghost use Rattle.import_replay.specs.ImportRefusals.{IsImportRefusal};
 ghost use Rattle.pool_threads.specs.Answers.{Makes};

@@ -1,5 +1,5 @@
 use Rattle.pool_threads.specs.Handles.{owned_of}
-use Rattle.closed_pools.proofs.LeftDevices.{only_handle}
+use Rattle.running_pools.proofs.LeftDevices.{only_handle}
 use Rattle.commands.proofs.changes.put_and_leave.Goals as goal
 
 pub returns : goal.returns

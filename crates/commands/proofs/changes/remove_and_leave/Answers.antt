@@ -1,6 +1,6 @@
 use Rattle.std.proofs.Common.{Err, Ok, refl}
 use Rattle.pool_threads.specs.Handles.{owned_of}
-use Rattle.closed_pools.proofs.LeftDevices.{only_handle}
+use Rattle.running_pools.proofs.LeftDevices.{only_handle}
 use Rattle.commands.proofs.changes.remove_and_leave.Goals as goal
 
 pub returns-in-Err : goal.returns-in-Err

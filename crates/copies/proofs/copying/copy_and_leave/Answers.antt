@@ -1,4 +1,4 @@
-use Rattle.closed_pools.proofs.LeftDevices.{only_handle}
+use Rattle.running_pools.proofs.LeftDevices.{only_handle}
 use Rattle.pool_threads.specs.Handles.{owned_of}
 use Rattle.copies.proofs.Held.{if_done}
 use Rattle.copies.proofs.copying.copy_and_leave.Goals as goal

@@ -5,7 +5,7 @@ use Rattle.base.proofs.crash.LeftDisks.{import_left}
 use Rattle.import_replay.specs.ImportSyncs.{IsImportSynced}
 use Rattle.import_replay.specs.RunStarts.{StartsRun}
 use Rattle.pool_threads.specs.Handles.{LeavesSame, OpensBehind, StartsBehind, opening_view, owned_of}
-use Rattle.closed_pools.proofs.alone.open_alone.Goals as goal
+use Rattle.running_pools.proofs.alone.open_alone.Goals as goal
 
 pub of_import-requires : goal.of_import-requires
 of_import-requires g c =

@@ -1,11 +1,13 @@
 //! What callers rely on: one function for each promise of this crate's calls, proved from the contract of the call
 //! alone. So it is refused as soon as that contract promises less.
 
+mod loops;
+
 ghost use Rattle.std.specs.Prelude.{◌≡◌, IfOk, IfSome, IsTrue};
 ghost use Rattle.base.specs.history.Past.{Past};
 ghost use Rattle.base.specs.kept.LeftDisks.{IsLeft};
 ghost use Rattle.base.specs.steps.Explains.{IsLeftBy};
-ghost use Rattle.closed_pools.specs.LeftDevices.{LeavesContents};
+ghost use Rattle.running_pools.specs.LeftDevices.{LeavesContents};
 ghost use Rattle.pool_threads.specs.Handles.{OpensBehind, opening_view, shared_of};
 
 use crate::alone::{close_alone, open_alone};

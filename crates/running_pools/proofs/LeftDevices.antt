@@ -24,10 +24,10 @@ use Rattle.pool_threads.specs.Handles.{EndsIn, IsBackIn, IsFirstSeen, IsLeftBehi
 use Rattle.pool_threads.specs.Views.{CrashRule, GrowsTo, IsFollowed, SeenPool, since, viewed_state}
 use Rattle.pool_threads.proofs.Along.{GoesAlong}
 use Rattle.word_lock.specs.Seats.{kin, seat_table, seen, taken, turns}
-use Rattle.closed_pools.specs.LeftDevices.{Closes, ClosesAfter, HoldsContents, IsLeftUpon, IsOnlyHandle, LeavesContents, LeavesRunUpon, LosesNothing}
-use Rattle.closed_pools.proofs.Adds.{Adds, ops_of, past_seen}
-use Rattle.closed_pools.proofs.Cuts.{Preserves, kept_by_cut, replays_all}
-use Rattle.closed_pools.proofs.Sounds.{AllAcknowledged}
+use Rattle.running_pools.specs.LeftDevices.{Closes, ClosesAfter, HoldsContents, IsLeftUpon, IsOnlyHandle, LeavesContents, LeavesRunUpon, LosesNothing}
+use Rattle.running_pools.proofs.Adds.{Adds, ops_of, past_seen}
+use Rattle.running_pools.proofs.Cuts.{Preserves, kept_by_cut, replays_all}
+use Rattle.running_pools.proofs.Sounds.{AllAcknowledged}
 
 -- what follows of what was found follows of what an import finds
 pub found_so : (A : Type 0) (P Q : Contents → Contents → Type 0) → ∥ A ∥₁ → (A → (base c : Contents) → P base c → Q base c) → (old new : Disk) → LeavesContents P old new → LeavesContents Q old new

@@ -2,9 +2,10 @@
 
 ghost use Rattle.std.specs.Prelude.{◌≡◌, IfOk};
 
+use crate::beside::{run_beside_loops, work_beside_loops};
+use crate::halt::Halt;
 use base::PoolError;
 use device_model::SectorDevice;
-use pool_loops::{Halt, run_beside_loops, work_beside_loops};
 use pool_threads::Pool;
 use std::sync::Wait;
 use std::thread::Threads;

@@ -1,7 +1,7 @@
 use Rattle.std.proofs.Common.{subst}
 use Rattle.std.specs.Prelude.{IfSome}
 use Rattle.pool_threads.specs.Handles.{IsLastState, owned_of}
-use Rattle.closed_pools.proofs.alone.close_alone.Goals as goal
+use Rattle.running_pools.proofs.alone.close_alone.Goals as goal
 
 pub returns : goal.returns
 returns g c = record {

@@ -1,7 +1,7 @@
 //! How the device of a pool that threads shared comes back.
 
 ghost use Rattle.std.specs.Prelude.{IfSome};
-ghost use Rattle.closed_pools.specs.LeftDevices.{Closes, ClosesAfter};
+ghost use Rattle.running_pools.specs.LeftDevices.{Closes, ClosesAfter};
 ghost use Rattle.pool_threads.specs.Handles.{WasOf, shared_of};
 
 use device_model::SectorDevice;

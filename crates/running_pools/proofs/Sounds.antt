@@ -20,7 +20,7 @@ use Rattle.pool_threads.specs.Answers.{state_seen}
 use Rattle.pool_threads.specs.Handles.{view_seen}
 use Rattle.pool_threads.specs.Views.{GrowsTo, SeenPool, viewed_state}
 use Rattle.pool_threads.specs.Waits.{AreDurable, SyncsPool, SyncsUpTo, result_of}
-use Rattle.closed_pools.proofs.Adds.{Adds, same_entries}
+use Rattle.running_pools.proofs.Adds.{Adds, same_entries}
 
 -- a state that its past explains, and one that it leads to
 abbrev pub IsSound : SeenPool → Type 0

@@ -13,8 +13,8 @@ use Rattle.base.specs.steps.Explains.{IsLeftBy}
 use Rattle.base.specs.steps.Locks.{is_in}
 use Rattle.base.proofs.common.KeptLists.{at_within}
 use Rattle.base.proofs.common.Sequences.{parted}
-use Rattle.closed_pools.proofs.Adds.{ops_of}
-use Rattle.closed_pools.proofs.Sounds.{AllAcknowledged}
+use Rattle.running_pools.proofs.Adds.{ops_of}
+use Rattle.running_pools.proofs.Sounds.{AllAcknowledged}
 
 -- what is acknowledged is marked
 pub marked : (marks : List Bool) (acknowledged : List ℕ) (o : ℕ) → All (λ k. get_or marks k false ≡ true) acknowledged → is_in o acknowledged ≡ true → get_or marks o false ≡ true

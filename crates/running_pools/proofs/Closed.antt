@@ -15,11 +15,11 @@ use Rattle.pool_threads.specs.declared.shared.Shared.{Shared}
 use Rattle.pool_threads.specs.Handles.{IsFirstSeen, OpensBehind, opening_view}
 use Rattle.pool_threads.specs.Views.{SeenPool, since}
 use Rattle.word_lock.specs.Seats.{seen}
-use Rattle.closed_pools.specs.LeftDevices.{Closes, ClosesAfter, HoldsContents}
-use Rattle.closed_pools.proofs.Adds.{ops_of}
-use Rattle.closed_pools.proofs.Cuts.{replays_all}
-use Rattle.closed_pools.proofs.LeftDevices.{left_by}
-use Rattle.closed_pools.proofs.Sounds.{AllAcknowledged}
+use Rattle.running_pools.specs.LeftDevices.{Closes, ClosesAfter, HoldsContents}
+use Rattle.running_pools.proofs.Adds.{ops_of}
+use Rattle.running_pools.proofs.Cuts.{replays_all}
+use Rattle.running_pools.proofs.LeftDevices.{left_by}
+use Rattle.running_pools.proofs.Sounds.{AllAcknowledged}
 
 -- a run without entries leaves what it began with
 nothing_left : (past : Past) → past.entries ≡ [] → (c : Contents) → IsLeftBy past c → c ≡ past.base

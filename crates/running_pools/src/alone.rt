@@ -3,7 +3,7 @@
 ghost use Rattle.std.specs.Prelude.{◌≡◌, ◌⊎◌, IfErr, IfOk, IsTrue};
 ghost use Rattle.base.specs.disk.Calls.{with_refusal};
 ghost use Rattle.base.specs.kept.Imports.{is_dirty_max_allowed};
-ghost use Rattle.closed_pools.specs.LeftDevices.{ClosesAfter};
+ghost use Rattle.running_pools.specs.LeftDevices.{ClosesAfter};
 ghost use Rattle.import_replay.specs.ImportRefusals.{IsImportRefusal};
 ghost use Rattle.pool_threads.specs.Handles.{IsFirstSeen, IsLeftByOpen, LeavesSame, OpensBehind, WasOf, kin_left, opening_view, owned_of};
 
