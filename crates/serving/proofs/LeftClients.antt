@@ -14,9 +14,9 @@ use Rattle.running_pools.specs.LeftDevices.{HasAllOf, HoldsRunUpon, IsLeftUpon}
 use Rattle.running_pools.proofs.Cuts.{marked}
 use Rattle.command_arguments.specs.declared.arguments.ServeArguments.{ServeArguments}
 use Rattle.device_model.specs.declared.device.SectorDevice.{Ghosts}
-use Rattle.frame_answers.specs.Serving.{AnswersFrames, Exchange, Streams, program}
-use Rattle.frame_answers.specs.declared.serving.Ending.{Ending}
-use Rattle.frame_answers.specs.declared.serving.Ending.TheVariants.{Done}
+use Rattle.serving.specs.Inputs.{AnswersFrames, Exchange, Streams, program}
+use Rattle.serving.specs.declared.inputs.Ending.{Ending}
+use Rattle.serving.specs.declared.inputs.Ending.TheVariants.{Done}
 use Rattle.frames.specs.Openings.{bytes_of_opening}
 use Rattle.pool_threads.specs.Answers.{state_seen}
 use Rattle.pool_threads.specs.Handles.{opened_in, shared_of}

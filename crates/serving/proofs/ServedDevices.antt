@@ -20,11 +20,11 @@ use Rattle.base.proofs.steps.SeenStates.{at-prefix, grown}
 use Rattle.device_model.specs.declared.device.SectorDevice.{Ghosts}
 use Rattle.frames.specs.declared.answer.Answer.{Answer}
 use Rattle.durable_answers.specs.Durability.{Asks, AsksAll, MakesDurable}
-use Rattle.frame_answers.specs.Frames.{AnswersFrame}
-use Rattle.frame_answers.specs.Serving.{AnswersFrames, Exchange, Streams, program}
-use Rattle.frame_answers.specs.declared.serving.Ending.{Ending}
+use Rattle.serving.specs.Frames.{AnswersFrame}
+use Rattle.serving.specs.Inputs.{AnswersFrames, Exchange, Streams, program}
+use Rattle.serving.specs.declared.inputs.Ending.{Ending}
 use Rattle.durable_answers.proofs.Along.{along_fsyncs, along_syncs}
-use Rattle.frame_answers.proofs.Durable.{along_calls}
+use Rattle.serving.proofs.Durable.{along_calls}
 use Rattle.import_replay.proofs.MountedPools.{group-within}
 use Rattle.pool_threads.specs.declared.handle.Handle.{Handle}
 use Rattle.pool_threads.specs.declared.handle.LastSeen.{LastSeen}

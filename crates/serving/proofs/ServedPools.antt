@@ -9,10 +9,10 @@ use Rattle.base.specs.declared.error.PoolError.{PoolError}
 use Rattle.base.specs.declared.names.Group.{Group}
 use Rattle.device_model.specs.declared.device.SectorDevice.{Ghosts}
 use Rattle.file_devices.specs.declared.held_file.FileRefusal.{FileRefusal}
-use Rattle.frame_answers.specs.Serving.{AnswersFrames, BeginsWithFrames, EndsWell, Exchange, ServesFrames, Streams, answers_of, frames_of, program}
-use Rattle.frame_answers.specs.declared.serving.Ending.{Ending}
-use Rattle.frame_answers.specs.declared.serving.Ending.TheVariants.{Done, NoMemory, WriteFailed}
-use Rattle.frame_answers.specs.Written.{AppendsFront, WritesFront}
+use Rattle.serving.specs.Inputs.{AnswersFrames, BeginsWithFrames, EndsWell, Exchange, ServesFrames, Streams, answers_of, frames_of, program}
+use Rattle.serving.specs.declared.inputs.Ending.{Ending}
+use Rattle.serving.specs.declared.inputs.Ending.TheVariants.{Done, NoMemory, WriteFailed}
+use Rattle.serving.specs.Written.{AppendsFront, WritesFront}
 use Rattle.frames.specs.Openings.{bytes_of_opening, bytes_of_unopened}
 use Rattle.pool_threads.specs.Handles.{IsNewHandle, OpensBehind, moment_in, opened_in, opening_view, shared_of}
 use Rattle.pool_threads.specs.Waits.{SyncsPool}

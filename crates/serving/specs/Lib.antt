@@ -1,1 +1,5 @@
 pub mod Serving
+pub mod Calls
+pub mod Frames
+pub mod Written
+pub mod Inputs

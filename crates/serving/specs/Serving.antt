@@ -6,10 +6,10 @@ use Rattle.base.specs.declared.names.Group.{Group}
 use Rattle.base.specs.kept.Imports.{are_limits_allowed}
 use Rattle.device_model.specs.declared.device.SectorDevice.{Ghosts}
 use Rattle.file_devices.specs.declared.held_file.FileRefusal.{FileRefusal}
-use Rattle.frame_answers.specs.Serving.{BeginsWithFrames, EndsWell, Exchange, ServesFrames, Streams, program}
-use Rattle.frame_answers.specs.Written.{AppendsFront}
-use Rattle.frame_answers.specs.declared.serving.Ending.{Ending}
-use Rattle.frame_answers.specs.declared.serving.Ending.TheVariants.{Done}
+use Rattle.serving.specs.Inputs.{BeginsWithFrames, EndsWell, Exchange, ServesFrames, Streams, program}
+use Rattle.serving.specs.Written.{AppendsFront}
+use Rattle.serving.specs.declared.inputs.Ending.{Ending}
+use Rattle.serving.specs.declared.inputs.Ending.TheVariants.{Done}
 use Rattle.frames.specs.Openings.{bytes_of_opening, bytes_of_unopened}
 use Rattle.frames.specs.declared.opening.Opening.{Opening}
 use Rattle.import_replay.specs.ImportRefusals.{IsImportRefusal}

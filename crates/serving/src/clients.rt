@@ -1,5 +1,7 @@
 //! What callers rely on of the command that serves a pool.
 
+mod frames;
+
 ghost use Rattle.std.specs.Prelude.{ℕ, ◌≡◌, ◌++◌, Bool, IfSome, IsSomeAnd, IsTrue, List, None, Ok, Some, false, get_or, slice_get, true};
 ghost use Rattle.std.specs.Io.{StartsWith};
 ghost use Rattle.base.specs.declared.names.Group as group;
@@ -10,7 +12,7 @@ ghost use Rattle.base.specs.history.Past.{Past};
 ghost use Rattle.base.specs.kept.LeftDisks.{IsLeft};
 ghost use Rattle.base.specs.steps.Explains.{IsLeftBy};
 ghost use Rattle.base.specs.tree.Mount.{MountsTo};
-ghost use Rattle.frame_answers.specs.Serving.{AnswersFrames, Exchange, answers_of, frames_of, program};
+ghost use Rattle.serving.specs.Inputs.{AnswersFrames, Exchange, answers_of, frames_of, program};
 ghost use Rattle.serving.specs.Serving.{opening_of};
 ghost use Rattle.frames.specs.Openings.{bytes_of_opening, bytes_of_unopened};
 ghost use Rattle.pool_threads.specs.Answers.{state_seen};

@@ -7,12 +7,13 @@ ghost use Rattle.serving.specs.Serving.{GivesOrRefuses, IsUnopened, OpensOn, Ser
 ghost use Rattle.frames.specs.Openings.{bytes_of_opening};
 ghost use Rattle.pool_threads.specs.Handles.{opened_in, shared_of};
 
+use crate::inputs::{Ending, serve};
+use crate::sink::AnswerWriter;
 use crate::unopened::{write_opening, write_unopened};
 use base::PoolError;
 use command_arguments::{ServeArguments, Verbosity};
 use device_model::SectorDevice;
 use file_devices::FileRefusal;
-use frame_answers::{AnswerWriter, Ending, serve};
 use pool_threads::{LastSeen, Limits, Pool};
 use read_commands::{BadNumber, Failure, NotesRefusals, report_failure};
 use running_pools::{Halt, close, close_after, work_beside_loops};

@@ -4,14 +4,15 @@ ghost use Rattle.std.specs.Prelude.{◌≡◌, ◌⊎◌, IfErr, OnErr, OnOk};
 ghost use Rattle.std.specs.Io.KnownBytes.{Appends};
 ghost use Rattle.read_commands.specs.Failures as failures;
 ghost use Rattle.serving.specs.Serving.{SaysUnopened, opening_of};
-ghost use Rattle.frame_answers.specs.Written.{AppendsFront};
+ghost use Rattle.serving.specs.Written.{AppendsFront};
 ghost use Rattle.frames.specs.Openings.{bytes_of_opening};
 ghost use Rattle.pool_threads.specs.Handles.{opened_in};
 
+use crate::inputs::Ending;
+use crate::sink::write_frame;
 use base::PoolError;
 use device_model::SectorDevice;
 use file_devices::{CallCause, FileRefusal};
-use frame_answers::{Ending, write_frame};
 use frames::{Opening, encode_opening, encode_unopened};
 use pool_threads::Pool;
 use read_commands::Failure;

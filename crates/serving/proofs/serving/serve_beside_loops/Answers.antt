@@ -1,5 +1,5 @@
 use Rattle.std.proofs.Common.{rules}
-use Rattle.frame_answers.specs.Serving.{Streams}
+use Rattle.serving.specs.Inputs.{Streams}
 use Rattle.frames.specs.Openings.{bytes_of_opening}
 use Rattle.pool_threads.specs.Handles.{opened_in, shared_of}
 use Rattle.serving.specs.Serving.{ServesAndLeaves, opening_of}

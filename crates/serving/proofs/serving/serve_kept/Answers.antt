@@ -1,5 +1,5 @@
 use Rattle.std.proofs.Common.{inl, inr, refl}
-use Rattle.frame_answers.specs.Serving.{Streams}
+use Rattle.serving.specs.Inputs.{Streams}
 use Rattle.serving.proofs.ServedPools.{not_done}
 use Rattle.serving.proofs.serving.serve_kept.Goals as goal
 

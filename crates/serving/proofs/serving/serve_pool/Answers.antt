@@ -1,6 +1,6 @@
 use Rattle.std.proofs.Common.{subst}
 use Rattle.std.specs.Prelude.{IfSome, IsSome}
-use Rattle.frame_answers.specs.Serving.{Streams}
+use Rattle.serving.specs.Inputs.{Streams}
 use Rattle.frames.specs.Openings.{bytes_of_opening}
 use Rattle.pool_threads.specs.Handles.{opened_in, shared_of}
 use Rattle.serving.specs.Serving.{ServesAndLeaves, opening_of}

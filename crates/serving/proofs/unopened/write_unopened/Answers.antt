@@ -1,7 +1,7 @@
 use Rattle.std.proofs.Common.{[], subst}
 use Rattle.std.specs.Io.KnownBytes.{Appends}
-use Rattle.frame_answers.specs.Written.{AppendsFront}
-use Rattle.frame_answers.proofs.Served.{no_front}
+use Rattle.serving.specs.Written.{AppendsFront}
+use Rattle.serving.proofs.Served.{no_front}
 use Rattle.frames.specs.Openings.{bytes_of_unopened}
 use Rattle.serving.proofs.ServedPools.{frame_front}
 use Rattle.serving.proofs.unopened.write_unopened.Goals as goal

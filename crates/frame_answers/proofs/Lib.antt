@@ -1,9 +1,0 @@
-pub mod Made
-pub mod Durable
-pub mod ListedBelow
-pub mod Room
-pub mod ReadParts
-pub mod Fronts
-pub mod Served
-pub mod ClientFrames
-pub mod ServedClients

@@ -1,4 +1,0 @@
-use Rattle.frame_answers.proofs.clients.a_serve_only_answers_frames_and_syncs.Goals as goal
-
-pub returns : goal.returns
-returns g c = let s = c.serve.ensures.served in (s.1, s.3.served, s.2, s.3.answers, s.3.syncs)

@@ -1,8 +1,0 @@
-use Rattle.frame_answers.proofs.ServedClients.{front_answered}
-use Rattle.frame_answers.proofs.clients.a_serve_writes_nothing_but_answers.Goals as goal
-
-pub returns : goal.returns
-returns g c =
-    let s = c.serve.ensures.served in
-    let f = front_answered s.1 c.args.input.now.now c.serve.new.input.now c.args.output.now.output.items c.serve.new.output.output.items s.0 s.5 in
-    (s.1, f.0, s.4.begins, f.1, f.2)
