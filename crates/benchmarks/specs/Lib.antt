@@ -3,3 +3,4 @@ pub mod Devices
 pub mod Measured
 pub mod Slots
 pub mod Sums
+pub mod Printed

@@ -1,6 +1,8 @@
 //! What callers rest on: one function for each promise of this crate's calls, proved from the contract of the call
 //! alone. So it is refused as soon as that contract says less.
 
+mod command;
+
 ghost use Rattle.std.specs.Prelude.{◌≡◌, ◌+◌, ◌-◌, ◌*◌, ◌<◌, ◌≤◌, ◌^◌, List, ℕ, [], ◌∷◌, Err, IfErr, IfOk, length, min};
 ghost use Rattle.base.specs.formats.Geometry.{sector_size};
 ghost use Rattle.benchmarks.specs.CallTimes.{calls_below, longest_in};

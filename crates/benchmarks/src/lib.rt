@@ -7,18 +7,23 @@
 //! 4. The times of the calls are counted by slots (`slots.rt`): 8 KB for each worker, however many calls there are.
 //! 5. The device counts its flushes (`counted_device.rt`).
 //!
-//! `measure` works on any device. The command `bench` of `ztxg` runs it on a new file.
+//! `measure` works on any device. The command `bench` of `ztxg` ([`run_bench`]) runs it on a pool of its own in a new file.
 #![tactic(auto)]
 
+mod bad_bench;
+mod bench;
 mod call_times;
 mod clients;
 mod counted_device;
+mod lines;
 mod measured;
+mod new_pool;
 mod slots;
 mod told_times;
 mod workers;
 mod writer;
 
+pub use bench::run_bench;
 pub use call_times::CallTimes;
 pub use command_arguments::BenchOrder;
 pub use counted_device::{CountedDevice, FlushCounter};

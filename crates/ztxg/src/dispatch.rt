@@ -2,7 +2,7 @@
 
 ghost use Rattle.std.specs.Prelude.{◌≤◌};
 
-use benching::run_bench;
+use benchmarks::run_bench;
 use command_arguments::{Arguments, Options, Terminals};
 use commands::run_change;
 use copies::run_copy;

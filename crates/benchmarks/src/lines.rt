@@ -2,9 +2,9 @@
 
 ghost use Rattle.std.specs.Io.KnownBytes.{Appends};
 ghost use Rattle.std.specs.Prelude.{◌≡◌, OnOk};
-ghost use Rattle.benching.specs.Printed.{count_lines, measured_lines, rate_lines, time_lines};
+ghost use Rattle.benchmarks.specs.Printed.{count_lines, measured_lines, rate_lines, time_lines};
 
-use benchmarks::Measured;
+use crate::measured::Measured;
 use std::io::{self, Write};
 
 /// Writes what was measured, a line each.

@@ -1,5 +1,4 @@
-//! What callers rest on: one function for each promise of this crate's call, proved from its contract alone. So it is
-//! refused as soon as that contract says less.
+//! What callers rest on of the command `bench`.
 
 ghost use Rattle.std.specs.Prelude.{◌≡◌, ◌++◌, [], List, ℕ, Some, codes};
 

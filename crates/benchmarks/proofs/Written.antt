@@ -5,7 +5,7 @@ use Rattle.std.specs.Prelude.{OnOk}
 use Rattle.std.proofs.KnownBytes.{Appends-trans}
 use Rattle.benchmarks.specs.declared.measured.Measured.{Measured}
 use Rattle.rates.specs.Rates.{rate_of}
-use Rattle.benching.specs.Printed.{count_lines, measured_lines, rate_lines, time_lines}
+use Rattle.benchmarks.specs.Printed.{count_lines, measured_lines, rate_lines, time_lines}
 
 -- three texts that were written one after another are one text, if the last one was written
 joined : {E : Type 0} (written : Result (Unit {0}) E) (a b c d : Option (List ℕ)) (xs ys zs : List ℕ) → Appends a b xs → Appends b c ys → OnOk written (Appends c d zs)

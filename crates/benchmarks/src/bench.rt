@@ -8,7 +8,7 @@ ghost use Rattle.base.specs.formats.Geometry.{is_geometry};
 ghost use Rattle.base.specs.kept.Imports.{is_dirty_max_allowed};
 ghost use Rattle.command_arguments.specs.Benches.{is_bench_order};
 ghost use Rattle.read_commands.specs.Failures.{sector_bytes};
-ghost use Rattle.benching.specs.Printed.{PrintsMeasured};
+ghost use Rattle.benchmarks.specs.Printed.{PrintsMeasured};
 
 use crate::bad_bench::BadBench;
 use crate::lines::write_measured;

@@ -7,8 +7,10 @@
 ghost use Rattle.std.specs.Prelude.{IfOk};
 ghost use Rattle.benchmarks.specs.Measured.{HasTimes};
 
+use crate::counted_device::{CountedDevice, FlushCounter};
+use crate::measured::{BenchError, Measured};
+use crate::workers::measure;
 use base::{DEFAULT_CACHE_BLOCKS, PoolError};
-use benchmarks::{BenchError, CountedDevice, FlushCounter, Measured, measure};
 use command_arguments::BenchArguments;
 use device_model::SectorDevice;
 use file_devices::{Access, FileDevice, FileRefusal, HeldFile, SectorFile};

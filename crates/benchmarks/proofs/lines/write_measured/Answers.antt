@@ -1,5 +1,5 @@
-use Rattle.benching.proofs.Written.{measured_written}
-use Rattle.benching.proofs.lines.write_measured.Goals as goal
+use Rattle.benchmarks.proofs.Written.{measured_written}
+use Rattle.benchmarks.proofs.lines.write_measured.Goals as goal
 
 pub returns : goal.returns
 returns g c =
