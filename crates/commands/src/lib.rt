@@ -2,7 +2,7 @@
 //! by its number, or by a name that object 0 has (`docs/FORMATS.md`, "Names of objects"). And the way from what was asked
 //! for to whichever of these commands it is.
 //!
-//! Those that only read are in `read_commands`, `serve` is in `serving`, `load` in `loading`, and `script` in
+//! Those that only read are in `read_commands`, `serve` is in `serving`, `load` in `loads`, and `script` in
 //! `script_commands`.
 //!
 //! The crate knows no command line: each command is given its arguments by a type of `command_arguments`.

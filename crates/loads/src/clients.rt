@@ -1,4 +1,9 @@
-//! What this crate rests on of the places that streams write.
+//! What callers rest on: one function for each promise of this crate's calls, proved from the contract of the call
+//! alone. So it is refused as soon as that contract says less. And what this crate rests on of the places that streams
+//! write.
+
+mod command;
+mod streams;
 
 ghost use Rattle.std.specs.Prelude.{◌≢◌, ◌<◌};
 

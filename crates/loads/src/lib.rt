@@ -13,16 +13,18 @@
 //! 6. At the end the pool is synced, the loops are stopped, and the digest of the contents is taken.
 //! 7. A refusal ends the load: no worker begins a further write, each gives up what it holds, and the loops stop.
 //!
-//! `load` works on any device. The command `load` of `ztxg` runs it on a file.
+//! `load` works on any device. The command `load` of `ztxg` ([`run_load`]) runs it on the pool in a file.
 #![tactic(auto)]
 
 mod clients;
+mod command;
 mod gate;
 mod order;
 mod words;
 mod workers;
 mod writer;
 
+pub use command::run_load;
 pub use command_arguments::{MAX_WORKERS, MAX_WRITES, Order, STREAMS};
 pub use gate::Gate;
 pub use order::{Loaded, WRITES_BETWEEN_WAITS};

@@ -7,7 +7,7 @@ use command_arguments::{Arguments, Options, Terminals};
 use commands::run_change;
 use copies::run_copy;
 use file_devices::{Access, HeldFile};
-use loading::run_load;
+use loads::run_load;
 use read_commands::{open_within, run_read, shows_progress};
 use script_commands::run_named_script;
 use serving::{report_terminal, run_serve};

@@ -2,7 +2,7 @@
 
 ghost use Rattle.std.specs.Prelude.{◌≡◌};
 
-use crate::load::run_load;
+use crate::command::run_load;
 use command_arguments::{LoadArguments, Order, Verbosity};
 use device_model::SectorDevice;
 use file_devices::FileRefusal;

@@ -4,10 +4,12 @@ ghost use Rattle.std.specs.Prelude.{◌≡◌, Err, IfOk};
 ghost use Rattle.loads.specs.Digests.{RepliesDigest};
 ghost use Rattle.pool_threads.specs.Handles.{shared_of};
 
+use crate::gate::Gate;
+use crate::order::Loaded;
+use crate::workers::load;
 use base::PoolError;
 use command_arguments::Order;
 use device_model::SectorDevice;
-use loads::{Gate, Loaded, load};
 use pool_threads::Pool;
 use std::alloc::Global;
 use std::sync::Wait;

@@ -7,11 +7,13 @@
 ghost use Rattle.std.specs.Prelude.{◌≡◌, ◌≢◌, ◌≤◌, Err, IfErr, IfOk, IsErr, false};
 ghost use Rattle.command_arguments.specs.Orders.{is_order};
 
+use crate::gate::Gate;
+use crate::order::{Loaded, WRITES_BETWEEN_WAITS};
+use crate::workers::load;
 use base::{ObjectId, PoolError, Reply};
 use command_arguments::{LoadArguments, Order, STREAMS, Verbosity};
 use device_model::SectorDevice;
 use file_devices::FileRefusal;
-use loads::{Gate, Loaded, WRITES_BETWEEN_WAITS, load};
 use pool_threads::{Limits, Pool};
 use read_commands::{BadNumber, Failure, NotesRefusals, ProgressLine, report_failure};
 use script_lines::Answer;
