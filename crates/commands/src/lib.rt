@@ -3,7 +3,7 @@
 //! for to whichever of these commands it is.
 //!
 //! Those that only read are in `read_commands`, `serve` is in `serving`, `load` in `loads`, and `script` in
-//! `script_commands`.
+//! `script_sessions`.
 //!
 //! The crate knows no command line: each command is given its arguments by a type of `command_arguments`.
 #![tactic(auto)]

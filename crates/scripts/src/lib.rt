@@ -2,7 +2,7 @@
 //!
 //! `run_script` reads a script line by line, has each command done on a session that owns its pool, and prints the
 //! answers; `run_script_on` has them done by whatever runs commands, as a session whose pool is under a lock
-//! (`shared_scripts`). The lines and the answers are those of `script_lines`.
+//! (`script_sessions`). The lines and the answers are those of `script_lines`.
 #![tactic(auto)]
 
 mod clients;

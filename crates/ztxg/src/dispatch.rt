@@ -9,7 +9,7 @@ use copies::run_copy;
 use file_devices::{Access, HeldFile};
 use loads::run_load;
 use read_commands::{open_within, run_read, shows_progress};
-use script_commands::run_named_script;
+use script_sessions::run_named_script;
 use serving::{report_terminal, run_serve};
 use std::io::{self, Eprint, Write};
 use std::os::unix::fs::FileExt;

@@ -1,7 +1,0 @@
-use Rattle.shared_scripts.proofs.LastLeft.{crash_leaves}
-use Rattle.shared_scripts.proofs.Relations.{of_shared}
-use Rattle.scripts.specs.Sessions.{place_in}
-use Rattle.shared_scripts.proofs.clients.a_fair_crash_leaves_what_the_run_left.Goals as goal
-
-pub returns : goal.returns
-returns g c = λ old past was run ok fair. crash_leaves (of_shared _) (λ shared device it. it) c.args.session.now old was c.args.pieces.items c.run.result (place_in c.run.new.self) past ok run fair c.run.ensures.done

@@ -1,9 +1,0 @@
-use Rattle.std.proofs.Common.{refl, ◌∙◌, ap}
-use Rattle.scripts.specs.Places.{has_pool}
-use Rattle.device_model.specs.MemState.{MemState}
-use Rattle.scripts.specs.declared.place.Place.{Place}
-use Rattle.shared_scripts.specs.declared.shared_pool.SharedPool.{SharedPool}
-use Rattle.shared_scripts.proofs.clients.a_sync_of_a_pool_is_answered.Goals as goal
-
-pub returns : goal.returns
-returns g c = λ old was. c.run.ensures.answered refl ∙ ap (λ (p : Place MemState SharedPool). has_pool p) was

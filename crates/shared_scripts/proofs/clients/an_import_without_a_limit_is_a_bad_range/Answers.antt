@@ -1,7 +1,0 @@
-use Rattle.shared_scripts.proofs.OnDevice.{refused_limit}
-use Rattle.shared_scripts.proofs.Relations.{of_shared}
-use Rattle.shared_scripts.specs.SharedPools.{LooksAt}
-use Rattle.shared_scripts.proofs.clients.an_import_without_a_limit_is_a_bad_range.Goals as goal
-
-pub returns : goal.returns
-returns g c = λ device e was sized is. refused_limit (of_shared _) (λ fault n old new. LooksAt old new) (λ e none. none) c.args.session.now c.run.new.self device was c.run.result e is sized c.run.ensures.done
