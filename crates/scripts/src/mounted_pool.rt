@@ -1,7 +1,7 @@
 //! A pool as a session has it: mounted by an import, asked by commands, and given up for its device.
 //!
-//! A session stands on any pool that does this: one that it steps itself, or one under a lock (`script_sessions`). What a pool is to its
-//! session, and what its session keeps of a run over crashes and imports, are the relations of the trait.
+//! A session stands on any pool that does this: one that it steps itself, or one under a lock (`script_sessions`). What a
+//! pool is to its session, and what its session keeps of a run over crashes and imports, are the relations of the trait.
 
 ghost use Rattle.std.specs.Prelude.{IfErr, IfOk, IsTrue, ℕ};
 ghost use Rattle.base.specs.declared.error.PoolError.{PoolError};
