@@ -8,7 +8,7 @@ use Rattle.base.specs.declared.pointer.Pointer.{Pointer}
 use Rattle.base.specs.declared.range.Range.{Range}
 use Rattle.base.specs.disk.Disk.{Disk, bytes_of}
 use Rattle.base.specs.formats.Limits.{record_size}
-use Rattle.object_paths.specs.ReadPaths.{TellsRecord}
+use Rattle.object_views.specs.ReadPaths.{TellsRecord}
 use Rattle.object_views.specs.ObjectViews.{TellsBetween, object_of}
 use Rattle.object_views.specs.declared.view.ObjectView.{ObjectView}
 use Rattle.trees.specs.declared.damages.BlockDamage.{BlockDamage}

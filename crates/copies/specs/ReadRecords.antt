@@ -9,7 +9,7 @@ use Rattle.base.specs.formats.Limits.{record_size}
 use Rattle.base.specs.history.Contents.{Contents, length_of}
 use Rattle.base.specs.tree.Mount.{MountsTo}
 use Rattle.inspections.specs.PoolDamages.{IsOfNoDamage}
-use Rattle.object_paths.specs.ReadPaths.{TellsRecord}
+use Rattle.object_views.specs.ReadPaths.{TellsRecord}
 use Rattle.object_views.specs.ObjectViews.{IsCheckedRead, IsObjectViewOf, length_seen, object_of}
 use Rattle.object_views.specs.declared.view.ObjectView.{ObjectView}
 use Rattle.read_commands.specs.Reads.{IsReadersRefusal}

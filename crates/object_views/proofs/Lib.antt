@@ -6,3 +6,5 @@ pub mod FoundViews
 pub mod ListedLengths
 pub mod AlikeContents
 pub mod Listings
+pub mod TestedBlocks
+pub mod ReadPlaces

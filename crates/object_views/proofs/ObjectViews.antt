@@ -22,7 +22,7 @@ use Rattle.base.proofs.tree.Strips.{max-length, record-count, strip-low, strip-o
 use Rattle.tree_blocks.specs.declared.forms.Entry.{Entry}
 use Rattle.trees.specs.ObjectPaths.{IsOnPath, TellsAbove, TellsPlace}
 use Rattle.trees.proofs.ObjectPaths.{tree_by_path}
-use Rattle.object_paths.specs.ReadPaths.{IsSoundObject, IsSoundRecord, TellsRecord, indirect_place, record_place}
+use Rattle.object_views.specs.ReadPaths.{IsSoundObject, IsSoundRecord, TellsRecord, indirect_place, record_place}
 use Rattle.extents.specs.Patches.{length_over}
 use Rattle.extents.proofs.PatchedObjects.{patched_length}
 use Rattle.inspections.specs.PoolDamages.{IsOfNoDamage}

@@ -19,8 +19,8 @@ use Rattle.base.proofs.history.Objects.{get-stored_same}
 use Rattle.tree_blocks.specs.declared.forms.Entry.{Entry}
 use Rattle.tree_blocks.specs.Sources.{AreBytesFrom}
 use Rattle.trees.specs.ObjectPaths.{IsEntryFound}
-use Rattle.object_paths.specs.ReadPaths.{IsPartRead, IsSoundObject, IsSoundRecord, IsStripRead, OnObject, TellsRecord}
-use Rattle.object_paths.specs.declared.path_blocks.PathBlocks.{PathBlocks}
+use Rattle.object_views.specs.ReadPaths.{IsPartRead, IsSoundObject, IsSoundRecord, IsStripRead, OnObject, TellsRecord}
+use Rattle.object_views.specs.declared.path_blocks.PathBlocks.{PathBlocks}
 use Rattle.extents.specs.declared.basis.Basis.{Basis}
 use Rattle.extents.specs.declared.basis.Basis.TheVariants.{Cut, Gone, Grown, Made}
 use Rattle.extents.specs.LaidReads.{LaysOnBelow}

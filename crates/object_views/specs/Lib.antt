@@ -3,3 +3,4 @@ pub mod OwnLaws
 pub mod ObjectViews
 pub mod PoolPaths
 pub mod Listings
+pub mod ReadPaths

@@ -15,9 +15,9 @@ use Rattle.device_model.specs.declared.device.SectorDevice.{Ghosts}
 use Rattle.tree_blocks.specs.declared.forms.Entry.{Entry}
 use Rattle.tree_blocks.specs.Sources.{AreBytesFrom}
 use Rattle.trees.specs.ObjectPaths.{IsEntryFound, IsSoundAbove, TellsAbove}
-use Rattle.object_paths.specs.ReadPaths.{ArePathBlocks, IsSoundObject, IsSoundRecord, OnObject, TellsRecord}
-use Rattle.object_paths.specs.declared.path_blocks.PathBlocks.{PathBlocks}
-use Rattle.object_paths.specs.declared.stored_object.StoredObject.{StoredObject}
+use Rattle.object_views.specs.ReadPaths.{ArePathBlocks, IsSoundObject, IsSoundRecord, OnObject, TellsRecord}
+use Rattle.object_views.specs.declared.path_blocks.PathBlocks.{PathBlocks}
+use Rattle.object_views.specs.declared.stored_object.StoredObject.{StoredObject}
 use Rattle.extents.specs.Patches.{Patch, is_shown, length_over, patched}
 use Rattle.extents.specs.Tables.{patches_of}
 use Rattle.mounted.specs.Ranges.{is_readable}

@@ -1,6 +1,8 @@
 //! What callers rest on: one function for each promise of this crate's calls, proved from the contract of the call
 //! alone. So it is refused as soon as that contract says less.
 
+mod stored;
+
 ghost use Rattle.std.specs.Prelude.{◌≡◌, ◌≢◌, ◌∷◌, [], ℕ, List, Some, false, IfErr, IfOk, IsTrue};
 ghost use Rattle.std.specs.FinMap as finite;
 ghost use Rattle.base.specs.declared.error.PoolError.TheVariants.{Damaged};
@@ -13,7 +15,7 @@ ghost use Rattle.base.specs.tree.Places.{pointer_of};
 ghost use Rattle.base.specs.tree.Places.Place.{Directory, Root};
 ghost use Rattle.tree_blocks.specs.ListedObjects.{listed};
 ghost use Rattle.inspections.specs.PoolDamages.{IsOfNoDamage};
-ghost use Rattle.object_paths.specs.ReadPaths.{IsSoundRecord};
+ghost use Rattle.object_views.specs.ReadPaths.{IsSoundRecord};
 ghost use Rattle.object_views.specs.ObjectViews.{FitsOn, IsObjectViewOf, is_own, object_of};
 
 use crate::listing::{ListedPool, list_pool};

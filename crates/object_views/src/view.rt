@@ -20,13 +20,14 @@ ghost use Rattle.inspections.specs.PoolDamages.{IsOfNoDamage};
 ghost use Rattle.object_views.specs.ObjectViews.{FitsOn, IsObjectViewOf, IsStoredEntry, IsViewingRefused, length_of_entry, object_of};
 
 use crate::own_records::OwnObject;
+use crate::path_blocks::PathBlocks;
 use crate::paths::{PoolPaths, find_paths};
+use crate::stored_object::StoredObject;
 use base::{Bytes, OBJECT_COUNT, ObjectId, Pointer, PoolError, RECORD_SIZE, Range};
 use checked_blocks::Frame;
 use device_model::SectorDevice;
 use extents::Extents;
 use import_replay::frame_of;
-use object_paths::{PathBlocks, StoredObject};
 use std::alloc::Global;
 use std::fmt;
 use tree_blocks::Entry;
@@ -178,7 +179,7 @@ impl ObjectView {
     ghost use Rattle.inspections.specs.PoolDamages.{IsOfNoDamage};
     ghost use Rattle.mounted.specs.Ranges.{is_readable};
     ghost use Rattle.object_maps.specs.Cached.{IsReadRefusal};
-    ghost use Rattle.object_paths.specs.ReadPaths.{IsSoundRecord, TellsRecord};
+    ghost use Rattle.object_views.specs.ReadPaths.{IsSoundRecord, TellsRecord};
     ghost use Rattle.tree_blocks.specs.Sources.{range_in};
     ghost use Rattle.object_views.specs.ObjectViews.{AreCheckedBytes, AreSeenBytes, AreStoredBytes, AreViewBlocks, FitsOn, IsCheckedRead, IsObjectReadRefusal, IsObjectViewOf, OnStored, OnView, TellsBetween, length_seen, object_of};
 

@@ -14,7 +14,7 @@ use Rattle.base.specs.tree.Mount.{MountsTo}
 use Rattle.device_model.specs.declared.device.SectorDevice.{Ghosts}
 use Rattle.inspections.specs.PoolDamages.{IsOfNoDamage}
 use Rattle.mounted.specs.Ranges.{is_readable}
-use Rattle.object_paths.specs.ReadPaths.{IsSoundRecord}
+use Rattle.object_views.specs.ReadPaths.{IsSoundRecord}
 use Rattle.object_views.specs.ObjectViews.{IsCheckedRead, IsObjectReadRefusal, IsObjectViewOf, IsViewingRefused, TellsBetween, is_own, length_seen, object_of}
 use Rattle.object_views.specs.declared.view.ObjectView.{ObjectView}
 use Rattle.object_views.proofs.ObjectViews.{mounted_length, undamaged}

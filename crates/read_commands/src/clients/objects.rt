@@ -5,7 +5,7 @@ ghost use Rattle.std.specs.FinMap as finite;
 ghost use Rattle.base.specs.tree.Mount.{MountsTo};
 ghost use Rattle.base.specs.disk.Disk.{bytes_of};
 ghost use Rattle.base.specs.history.Contents.{Contents};
-ghost use Rattle.object_paths.specs.ReadPaths.{IsSoundRecord};
+ghost use Rattle.object_views.specs.ReadPaths.{IsSoundRecord};
 ghost use Rattle.object_views.specs.ObjectViews.{IsObjectViewOf, is_own, object_of};
 ghost use Rattle.object_views.specs.declared.view.ObjectView.{ObjectView};
 

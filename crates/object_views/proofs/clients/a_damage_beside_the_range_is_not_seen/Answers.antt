@@ -1,7 +1,7 @@
 use Rattle.std.proofs.Common.{◌≡◌, ◌/◌, ℕ, List, subst, arith}
 use Rattle.std.proofs.lemmas.Result.{IfErr-weaker}
 use Rattle.base.specs.disk.Disk.{bytes_of}
-use Rattle.object_paths.specs.ReadPaths.{TellsRecord}
+use Rattle.object_views.specs.ReadPaths.{TellsRecord}
 use Rattle.object_views.specs.ObjectViews.{object_of}
 use Rattle.object_views.proofs.ObjectViews.{sound_untold}
 use Rattle.object_views.proofs.clients.a_damage_beside_the_range_is_not_seen.Goals as goal

@@ -1,6 +1,6 @@
 use Rattle.std.proofs.Common.{ℕ, List, [], ◌≡◌, ◌+◌, ◌-◌, ◌<◌, ◌≤◌, Option, get_or, length}
 use Rattle.std.specs.Prelude.{IsTrue, unwrap_or}
-use Rattle.object_paths.specs.ReadPaths.{IsSoundObject}
+use Rattle.object_views.specs.ReadPaths.{IsSoundObject}
 use Rattle.object_views.specs.ObjectViews.{AreCheckedBytes, AreViewBlocks, OnStored, OnView, object_of, seen_over}
 use Rattle.object_views.proofs.view.ObjectView.read_bytes.Given as goal
 

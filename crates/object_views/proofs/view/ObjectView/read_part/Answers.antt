@@ -1,6 +1,6 @@
 use Rattle.std.proofs.Common.{rules, ◌≡◌, ◌*◌, ◌+◌, ◌≤◌, ◌⊎◌, ◌∙◌, inl, inr, ℕ, List, length, refl, ap, arith, subst, sym}
 use Rattle.extents.specs.Objects.{HidesBelow}
-use Rattle.object_paths.specs.declared.path_blocks.PathBlocks.{PathBlocks}
+use Rattle.object_views.specs.declared.path_blocks.PathBlocks.{PathBlocks}
 use Rattle.object_views.specs.ObjectViews.{AreCheckedBytes, AreStoredBytes, AreViewBlocks, OnStored, patch_seen}
 use Rattle.object_views.proofs.SeenBytes.{hidden_checked, laid_seen, read_checked}
 use Rattle.object_views.proofs.view.ObjectView.read_part.Goals as goal

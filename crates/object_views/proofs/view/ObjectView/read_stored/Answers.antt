@@ -3,7 +3,7 @@ use Rattle.std.specs.Prelude.{IfSome}
 use Rattle.std.proofs.lemmas.Result.{on_ok_weaker}
 use Rattle.tree_blocks.specs.declared.forms.Entry.{Entry}
 use Rattle.trees.specs.ObjectPaths.{IsEntryFound}
-use Rattle.object_paths.specs.ReadPaths.{IsSoundRecord, OnObject}
+use Rattle.object_views.specs.ReadPaths.{IsSoundRecord, OnObject}
 use Rattle.object_views.specs.ObjectViews.{AreViewBlocks, object_of, stored_object}
 use Rattle.object_views.proofs.SeenBytes.{stored_bytes}
 use Rattle.object_views.proofs.view.ObjectView.read_stored.Goals as goal

@@ -4,10 +4,10 @@ use Rattle.std.proofs.lemmas.Result.{err_from_is_err_and}
 use Rattle.base.specs.formats.Blocks.{Opens}
 use Rattle.base.proofs.tree.Strips.{record-count}
 use Rattle.object_maps.specs.BlockReads.{TellsBlock}
-use Rattle.object_paths.specs.ReadPaths.{record_place}
-use Rattle.object_paths.proofs.TestedBlocks.{tells_missing}
-use Rattle.object_paths.proofs.ReadPlaces.{block_formless, block_read, block_sound, hole_read, hole_sound, size_at}
-use Rattle.object_paths.proofs.stored_object.StoredObject.read_record.Goals as goal
+use Rattle.object_views.specs.ReadPaths.{record_place}
+use Rattle.object_views.proofs.TestedBlocks.{tells_missing}
+use Rattle.object_views.proofs.ReadPlaces.{block_formless, block_read, block_sound, hole_read, hole_sound, size_at}
+use Rattle.object_views.proofs.stored_object.StoredObject.read_record.Goals as goal
 
 pub strip_number-number-requires-clause-index : goal.strip_number-number-requires-clause-index
 strip_number-number-requires-clause-index g c = omega (arith, c.requires.index, record-count)

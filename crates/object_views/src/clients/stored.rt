@@ -1,5 +1,4 @@
-//! What callers rest on: one function for each promise of this crate's calls, proved from the contract of the call
-//! alone. So it is refused as soon as that contract says less.
+//! What callers rest on of the bytes of one object.
 
 ghost use Rattle.std.specs.Prelude.{◌≡◌, ◌≤◌, length, IsTrue, OnOk};
 ghost use Rattle.base.specs.disk.Disk.{bytes_of};

@@ -6,7 +6,7 @@ use Rattle.base.specs.tree.Damages.{IsSoundAt}
 use Rattle.base.specs.tree.Places.Place.{Top}
 use Rattle.base.proofs.tree.Strips.{record-count}
 use Rattle.trees.specs.Walking.{IsObjectAt}
-use Rattle.object_paths.proofs.clients.a_part_is_that_of_its_record.Goals as goal
+use Rattle.object_views.proofs.clients.stored.a_part_is_that_of_its_record.Goals as goal
 
 pub read_part-requires-clause-index : goal.read_part-requires-clause-index
 read_part-requires-clause-index g c = omega (arith, record-count)

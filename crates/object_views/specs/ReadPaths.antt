@@ -14,8 +14,8 @@ use Rattle.object_maps.specs.BlockReads.{TellsBlock}
 use Rattle.tree_blocks.specs.Sources.{AreBytesFrom}
 use Rattle.trees.specs.ObjectPaths.{TellsPlace}
 use Rattle.trees.specs.Walking.{IsObjectAt}
-use Rattle.object_paths.specs.declared.path_blocks.PathBlocks.{PathBlocks}
-use Rattle.object_paths.specs.declared.stored_object.StoredObject.{StoredObject}
+use Rattle.object_views.specs.declared.path_blocks.PathBlocks.{PathBlocks}
+use Rattle.object_views.specs.declared.stored_object.StoredObject.{StoredObject}
 
 -- the places of record r of object n: its indirect block, and its own
 abbrev pub indirect_place : ℕ → ℕ → Place

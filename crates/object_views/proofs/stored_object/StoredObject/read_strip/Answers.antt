@@ -5,9 +5,9 @@ use Rattle.base.specs.declared.error.PoolError.{PoolError}
 use Rattle.base.specs.disk.Disk.{Disk, bytes_of}
 use Rattle.base.specs.tree.Places.Place.{Indirect}
 use Rattle.tree_blocks.specs.Forms.{AreRecordForms}
-use Rattle.object_paths.specs.ReadPaths.{IsBlockMissing, IsPayloadRead, IsStripRead}
-use Rattle.object_paths.proofs.ReadPlaces.{same_strip, strip_formless, strip_missing, strip_of_object, strip_read}
-use Rattle.object_paths.proofs.stored_object.StoredObject.read_strip.Goals as goal
+use Rattle.object_views.specs.ReadPaths.{IsBlockMissing, IsPayloadRead, IsStripRead}
+use Rattle.object_views.proofs.ReadPlaces.{same_strip, strip_formless, strip_missing, strip_of_object, strip_read}
+use Rattle.object_views.proofs.stored_object.StoredObject.read_strip.Goals as goal
 
 pub returns-then-eq-clause-read : goal.returns-then-eq-clause-read
 returns-then-eq-clause-read g c = λ keeps image root shows is.

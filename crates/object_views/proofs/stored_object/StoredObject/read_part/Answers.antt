@@ -2,7 +2,7 @@ use Rattle.std.proofs.Common.{◌∙◌, ◌%◌, ◌<◌, ap, sym, inl, inr, ar
 use Rattle.std.proofs.lemmas.Result.{err_from_is_err_and, IfErr-weaker, on_ok_weaker}
 use Rattle.base.specs.disk.Disk.{Disk, bytes_of}
 use Rattle.base.proofs.tree.Strips.{record-count}
-use Rattle.object_paths.proofs.stored_object.StoredObject.read_part.Goals as goal
+use Rattle.object_views.proofs.stored_object.StoredObject.read_part.Goals as goal
 
 pub read_strip-requires-clause-strip : goal.read_strip-requires-clause-strip
 read_strip-requires-clause-strip g c = omega (arith, c.requires.index, record-count)

@@ -14,7 +14,7 @@ ghost use Rattle.device_model.specs.Reading.{OnlyReads};
 ghost use Rattle.object_maps.specs.Cached.{IsReadRefusal};
 ghost use Rattle.tree_blocks.specs.BlockPlaces.{place_of};
 ghost use Rattle.trees.specs.ObjectPaths.{TellsPlace};
-ghost use Rattle.object_paths.specs.ReadPaths.{ArePathBlocks, IsBlockMissing, IsPartRead, IsPayloadRead, IsRecordRead, IsStripRead, IsTopRead, OnObject, TellsRecord, TellsStrip, record_place};
+ghost use Rattle.object_views.specs.ReadPaths.{ArePathBlocks, IsBlockMissing, IsPartRead, IsPayloadRead, IsRecordRead, IsStripRead, IsTopRead, OnObject, TellsRecord, TellsStrip, record_place};
 
 use crate::path_blocks::PathBlocks;
 use base::{ObjectId, POINTER_COUNT, Pointer, PoolError, RECORD_SIZE, are_zeros};

@@ -24,8 +24,8 @@ use Rattle.tree_blocks.specs.declared.forms.Entry.{Entry}
 use Rattle.trees.specs.ObjectPaths.{TellsPlace}
 use Rattle.trees.specs.Walking.{IsIndirectOf, IsObjectAt, IsTopOf}
 use Rattle.trees.proofs.WalkParts.{first_strip, later_strips, no_top, records_linked, top_at, top_none, top_strips}
-use Rattle.object_paths.proofs.TestedBlocks.{one_payload, padded, padded_zeros, tells_formless, tells_missing, tested}
-use Rattle.object_paths.specs.ReadPaths.{AreRecordBytes, IsBlockMissing, IsPayloadRead, IsStripRead, IsTopRead, TellsStrip, record_place}
+use Rattle.object_views.proofs.TestedBlocks.{one_payload, padded, padded_zeros, tells_formless, tells_missing, tested}
+use Rattle.object_views.specs.ReadPaths.{AreRecordBytes, IsBlockMissing, IsPayloadRead, IsStripRead, IsTopRead, TellsStrip, record_place}
 
 -- a block is refused as a read is
 pub of_block : (kind address : ℕ) (e : PoolError) → IsBlockRefusal kind address e → IsReadRefusal e

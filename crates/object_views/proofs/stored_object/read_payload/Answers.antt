@@ -1,7 +1,7 @@
 use Rattle.std.proofs.Common.{rules, ◌≡◌, ◌<◌, ℕ, length, get_or, refl, inl, arith}
 use Rattle.std.proofs.lemmas.Result.{err_from_is_err_and}
 use Rattle.object_maps.proofs.ObjectReads.{all_zero, zero_pointer}
-use Rattle.object_paths.proofs.stored_object.read_payload.Goals as goal
+use Rattle.object_views.proofs.stored_object.read_payload.Goals as goal
 
 pub returns-then-is_none-clause-read : goal.returns-then-is_none-clause-read
 returns-then-is_none-clause-read g c = λ keeps image shows.

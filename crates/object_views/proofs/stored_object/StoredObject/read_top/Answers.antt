@@ -1,7 +1,7 @@
 use Rattle.std.proofs.Common.{refl}
 use Rattle.std.proofs.lemmas.Result.{err_from_is_err_and}
-use Rattle.object_paths.proofs.ReadPlaces.{top_formless, top_missing, top_read}
-use Rattle.object_paths.proofs.stored_object.StoredObject.read_top.Goals as goal
+use Rattle.object_views.proofs.ReadPlaces.{top_formless, top_missing, top_read}
+use Rattle.object_views.proofs.stored_object.StoredObject.read_top.Goals as goal
 
 pub returns-in_err-read_payload-clause-damage : goal.returns-in_err-read_payload-clause-damage
 returns-in_err-read_payload-clause-damage g c = λ keeps image root shows is.

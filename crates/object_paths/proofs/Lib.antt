@@ -1,2 +1,0 @@
-pub mod TestedBlocks
-pub mod ReadPlaces
