@@ -2,7 +2,7 @@
 
 `cc` compiles a `pread64`, a `pwrite64` and an `fsync` that wait before each call (`tools/harness/shims/delays.c`).
 
-- `create`, also over a pool, `check`, `get`, `put` and `rm`: in the first second standard error has nothing. Then it has
+- `create`, also over a pool, `check`, `get`, `put`, `rm` and `copy`: in the first second standard error has nothing. Then it has
   how many bytes were read and written, and how many in a second, at most four times a second. They only grow.
 - At the end a terminal shows what the same command prints on a quick file, and nothing else. So it does if the command
   is refused, or prints to the same terminal.
@@ -53,7 +53,13 @@ class Case(NamedTuple):
 
     @property
     def command(self):
-        return [self.file if word == "FILE" else word for word in self.words]
+        files = {"FILE": self.file, "NEW": self.new}
+        return [files.get(word, word) for word in self.words]
+
+    @property
+    def new(self):
+        """The file that a copy makes."""
+        return f"{self.file}.new"
 
 
 CREATE = ["create", "FILE", "tank", "77", str(SIZE)]
@@ -67,6 +73,7 @@ CASES = [
     Case("a put", ["put", "FILE", "2"]),
     Case("a put by name", ["put", "FILE", "@two"]),
     Case("a removal", ["rm", "FILE", "1"]),
+    Case("a copy", ["copy", "FILE", "NEW"], delay=DELAY_OF_CREATE),
 ]
 QUIET = Case("a quiet check", ["-q", "check", "FILE"])
 LOGGED = Case("a check without a terminal", ["check", "FILE"])
@@ -98,7 +105,8 @@ class Progress(Judge):
         subprocess.run([self.ztxg, "put", MADE, "1"], input=TEXT, stdout=subprocess.DEVNULL, check=True)
 
     def prepare(self, case):
-        pathlib.Path(case.file).unlink(missing_ok=True)
+        for file in (case.file, case.new):
+            pathlib.Path(file).unlink(missing_ok=True)
         if not case.is_new:
             shutil.copy(MADE, case.file)
 

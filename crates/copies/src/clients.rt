@@ -12,10 +12,10 @@ use command_arguments::{CopyArguments, Options, Verbosity};
 use device_model::SectorDevice;
 use file_devices::{FileRefusal, HeldFile};
 use object_views::PoolPaths;
-use read_commands::NotesRefusals;
-use std::io::Write;
+use read_commands::{NotesRefusals, ShownWork};
+use std::io::{Eprint, Write};
 use std::os::unix::fs::FileExt;
-use std::rt::Files;
+use std::rt::{Clock, Files};
 use std::sync::Wait;
 
 const OPTIONS: Options = Options {
@@ -39,44 +39,70 @@ fn copy_of(size: Option<u64>) -> CopyArguments<'static>
 
 // The output had no bytes before.
 fn a_copy_of_status_0_prints_nothing<
-    R: Files + Wait + AllocGlobal,
+    R: Files + Wait + Eprint + AllocGlobal + Clock,
     D: SectorDevice + NotesRefusals,
     W: Write,
     E: Write,
->(rt: &R, opened: &mut Result<D, FileRefusal>, out: &mut W, errors: &mut E) -> u8
+>(
+    rt: &R,
+    work: &ShownWork<'_, R>,
+    opened: &mut Result<D, FileRefusal>,
+    out: &mut W,
+    errors: &mut E,
+) -> u8
 where
     R::File: FileExt + HeldFile,
     ensures { result ≡ 0 → IfOk opened.old
         (λ _. W.contents out.old ≡ Some [] → W.contents out.new ≡ Some []) }
 {
-    run_copy(rt, copy_of(None), OPTIONS, opened, out, errors)
+    run_copy(rt, copy_of(None), OPTIONS, work, opened, out, errors)
 }
 
 fn a_copy_leaves_the_old_disk_as_it_was<
-    R: Files + Wait + AllocGlobal,
+    R: Files + Wait + Eprint + AllocGlobal + Clock,
     D: SectorDevice + NotesRefusals,
     W: Write,
     E: Write,
->(rt: &R, opened: &mut Result<D, FileRefusal>, out: &mut W, errors: &mut E) -> u8
+>(
+    rt: &R,
+    work: &ShownWork<'_, R>,
+    opened: &mut Result<D, FileRefusal>,
+    out: &mut W,
+    errors: &mut E,
+) -> u8
 where
     R::File: FileExt + HeldFile,
     ensures { IsTrue D.keeps_model → IfOk opened.old
         (λ before. IfOk opened.new (λ after. D.disk after ≡ D.disk before)) }
 {
-    run_copy(rt, copy_of(None), OPTIONS, opened, out, errors)
+    run_copy(rt, copy_of(None), OPTIONS, work, opened, out, errors)
 }
 
 fn a_copy_into_a_small_file_has_status_1<
-    R: Files + Wait + AllocGlobal,
+    R: Files + Wait + Eprint + AllocGlobal + Clock,
     D: SectorDevice + NotesRefusals,
     W: Write,
     E: Write,
->(rt: &R, opened: &mut Result<D, FileRefusal>, out: &mut W, errors: &mut E) -> u8
+>(
+    rt: &R,
+    work: &ShownWork<'_, R>,
+    opened: &mut Result<D, FileRefusal>,
+    out: &mut W,
+    errors: &mut E,
+) -> u8
 where
     R::File: FileExt + HeldFile,
     ensures { IfOk opened.old (λ _. result ≡ 1) }
 {
-    run_copy(rt, copy_of(Some(6_291_455)), OPTIONS, opened, out, errors)
+    run_copy(
+        rt,
+        copy_of(Some(6_291_455)),
+        OPTIONS,
+        work,
+        opened,
+        out,
+        errors,
+    )
 }
 
 // A damage isn't passed over unless that is asked for.

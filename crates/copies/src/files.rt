@@ -19,13 +19,15 @@ use device_model::SectorDevice;
 use file_devices::{FileRefusal, HeldFile};
 use labels::{Geometry, LABEL_SIZE, MAX_SIZE, MIN_SIZE};
 use object_views::{PoolPaths, find_paths};
-use read_commands::{Failure, NewFile, NotesRefusals, report_failure, report_refusal};
+use read_commands::{
+    Failure, NewFile, NotesRefusals, ShownDevice, ShownWork, report_failure, report_refusal,
+};
 use script_lines::REFUSED;
 use std::fmt;
 use std::fs::{self, File};
-use std::io::{self, Write};
+use std::io::{self, Eprint, Write};
 use std::os::unix::fs::FileExt;
-use std::rt::Files;
+use std::rt::{Clock, Files};
 use std::sync::Wait;
 
 /// Copies what can be read of the pool in a file into a new pool in a new file, and returns the exit status. The old
@@ -34,11 +36,18 @@ use std::sync::Wait;
 /// The status is 0 if all was copied. It is 1 if the engine refused it; then there is no new file. It is 1, too, if a
 /// damage kept something from the copy that was to be passed over. Then `out` has a line for it. The status is 3 if the
 /// old file was not opened as a device, if the new one is there already or can't be made, or if `out` can't be written;
-/// then there is no new file of this call. A failure is reported on `errors`.
-pub fn run_copy<R: Files + Wait + AllocGlobal, D: SectorDevice + NotesRefusals, W: Write, E: Write>(
+/// then there is no new file of this call. A failure is reported on `errors`. What is read of the new file and written to
+/// it is added to `work`.
+pub fn run_copy<
+    R: Files + Wait + Eprint + AllocGlobal + Clock,
+    D: SectorDevice + NotesRefusals,
+    W: Write,
+    E: Write,
+>(
     rt: &R,
     arguments: CopyArguments<'_>,
     options: Options,
+    work: &ShownWork<'_, R>,
     opened: &mut Result<D, FileRefusal>,
     out: &mut W,
     errors: &mut E,
@@ -66,7 +75,7 @@ where
     if let Some(size) = bad_size(arguments.size) {
         return report_refusal(PoolError::BadGeometry, &size, verbosity, errors);
     }
-    match copy_found(rt, arguments, old, out) {
+    match copy_found(rt, arguments, work, old, out) {
         Ok(true) => 0,
         Ok(false) => REFUSED,
         Err(failure) => report_failure(failure, arguments.new, verbosity, errors),
@@ -98,9 +107,14 @@ fn bad_size(size: Option<u64>) -> Option<BadSize>
 }
 
 // Finds the pool on the old device, and copies what can be read of it. Returns whether that was all.
-fn copy_found<R: Files + Wait + AllocGlobal, D: SectorDevice + NotesRefusals, W: Write>(
+fn copy_found<
+    R: Files + Wait + Eprint + AllocGlobal + Clock,
+    D: SectorDevice + NotesRefusals,
+    W: Write,
+>(
     rt: &R,
     arguments: CopyArguments<'_>,
+    work: &ShownWork<'_, R>,
     old: &mut D,
     out: &mut W,
 ) -> Result<bool, Failure>
@@ -113,15 +127,20 @@ where
         arguments.entry.skips_damaged) }
 {
     match find_paths(rt.alloc(), old) {
-        Ok(paths) => copy_to_file(rt, arguments, &paths, old, out),
+        Ok(paths) => copy_to_file(rt, arguments, work, &paths, old, out),
         Err(refusal) => Err(Failure::of_pool(refusal, old)),
     }
 }
 
 // Makes the new file, and copies into it what can be read. The file is removed unless that came to its end.
-fn copy_to_file<R: Files + Wait + AllocGlobal, D: SectorDevice + NotesRefusals, W: Write>(
+fn copy_to_file<
+    R: Files + Wait + Eprint + AllocGlobal + Clock,
+    D: SectorDevice + NotesRefusals,
+    W: Write,
+>(
     rt: &R,
     arguments: CopyArguments<'_>,
+    work: &ShownWork<'_, R>,
     paths: &PoolPaths,
     old: &mut D,
     out: &mut W,
@@ -140,7 +159,7 @@ where
         Ok(_) => {}
         Err(cause) => return Err(Failure::Unusable(FileRefusal::System(cause))),
     }
-    let copied = copy_in_file(rt, arguments, paths, old, out);
+    let copied = copy_in_file(rt, arguments, work, paths, old, out);
     if copied.is_err() {
         let _ = fs::remove_file(rt, arguments.new);
     }
@@ -155,9 +174,14 @@ fn make_file<R: Files>(files: &R, path: &str) -> io::Result<R::File> {
 }
 
 // Copies what can be read into the new file, which has no byte yet. The file is closed then.
-fn copy_in_file<R: Files + Wait + AllocGlobal, D: SectorDevice + NotesRefusals, W: Write>(
+fn copy_in_file<
+    R: Files + Wait + Eprint + AllocGlobal + Clock,
+    D: SectorDevice + NotesRefusals,
+    W: Write,
+>(
     rt: &R,
     arguments: CopyArguments<'_>,
+    work: &ShownWork<'_, R>,
     paths: &PoolPaths,
     old: &mut D,
     out: &mut W,
@@ -178,7 +202,7 @@ where
         only_new: false,
     };
     let new = match file.create_within(rt, 0) {
-        Ok(new) => new,
+        Ok(new) => ShownDevice::new(new, work),
         Err(cause) => return Err(Failure::Unusable(cause)),
     };
     let pool = NewPool {

@@ -8,7 +8,9 @@ use commands::run_change;
 use copies::run_copy;
 use file_devices::{Access, HeldFile};
 use loads::run_load;
-use read_commands::{open_within, run_read, shows_progress};
+use read_commands::{
+    ClearedWriter, ProgressLine, ShownDevice, ShownWork, open_within, run_read, shows_progress,
+};
 use script_sessions::run_named_script;
 use serving::{report_terminal, run_serve};
 use std::io::{self, Eprint, Write};
@@ -18,9 +20,9 @@ use std::sync::Wait;
 use std::thread::Threads;
 
 /// Does a command of the program, and returns the exit status. A file that another process has is waited for as long as
-/// the options say, and a script may wait for its pool. A load, a serve and a bench have threads. A load and those that
-/// read, make or change a pool show on a terminal how far they are. A put says if it reads from a terminal, and a serve
-/// isn't done if it would answer to one. Failures are reported on `errors`, which is standard error.
+/// the options say, and a script may wait for its pool. A load, a serve and a bench have threads. A load, a copy and those
+/// that read, make or change a pool show on a terminal how far they are. A put says if it reads from a terminal, and a
+/// serve isn't done if it would answer to one. Failures are reported on `errors`, which is standard error.
 pub(crate) fn run<
     R: Files + Input + Print + Eprint + AllocGlobal + Threads + Wait + Clock + Sync,
     E: Write,
@@ -37,9 +39,13 @@ where
             run_bench(rt, arguments, options, &mut io::writer(rt), errors)
         }
         Arguments::Copy(arguments) => {
-            let mut opened = open_within(rt, arguments.old, Access::Read, wait);
-            let out = &mut io::writer(rt);
-            run_copy(rt, arguments, options, &mut opened, out, errors)
+            let line = ProgressLine::new(rt, shows_progress(verbosity, terminals));
+            let work = ShownWork::new(&line);
+            let opened = open_within(rt, arguments.old, Access::Read, wait);
+            let mut shown = ShownDevice::of_opened(opened, &work);
+            let out = &mut ClearedWriter::new(io::writer(rt), &line);
+            let errors = &mut ClearedWriter::new(errors, &line);
+            run_copy(rt, arguments, options, &work, &mut shown, out, errors)
         }
         Arguments::Script(arguments) => run_named_script(rt, arguments, options, errors),
         Arguments::Load(arguments) => run_load(
