@@ -18,7 +18,8 @@ use Rattle.base.specs.common.Rising.{as_keys, rising}
 use Rattle.base.proofs.stored.StoredSets.{keys-as_keys, less-by_cmp, split}
 use Rattle.space.specs.FreeSets.{block_index, free_from}
 use Rattle.space.proofs.Flags.{other}
-use Rattle.space.specs.Flags.{AreTaken, IsFirstFree, addresses_from, free_of}
+use Rattle.space.specs.SetFlags.{AreClear, IsFirstSet}
+use Rattle.space.specs.Flags.{addresses_from, free_of}
 
 less : (x y : ℕ) → x < y → is_lt (nat_cmp x y) ≡ true
 less x y h = ap (λ (b : Bool). is_lt (cond b Less (cond (nat_eq x y) Equal Greater))) (lt-ltb x y h)
@@ -170,7 +171,7 @@ unfolding addresses_from
 free_past flags i past = ap (addresses_from i) (drop_all i flags past)
 
 -- blocks that are taken have no address among them
-skipped : (flags : List Bool) (i n : ℕ) → i + n ≤ length flags → AreTaken i (i + n) flags → addresses_behind i flags ≡ addresses_behind (i + n) flags
+skipped : (flags : List Bool) (i n : ℕ) → i + n ≤ length flags → AreClear i (i + n) flags → addresses_behind i flags ≡ addresses_behind (i + n) flags
 skipped flags i zero within taken = let e : i + 0 ≡ i = omega arith in rw e refl
 skipped flags i (suc n) within taken =
     let e : i + suc n ≡ i + 1 + n = omega arith in
@@ -179,7 +180,7 @@ skipped flags i (suc n) within taken =
     ∙ ap (λ j. addresses_behind j flags) (sym e)
 
 -- from an index on, the first free block's address is the first
-pub first_free-lowest : (first block : ℕ) (flags : List Bool) → IsFirstFree first flags block
+pub first_free-lowest : (first block : ℕ) (flags : List Bool) → IsFirstSet first (length flags) flags block
     → free_from first (free_of flags) ≡ block_address block ∷ free_from (block + 1) (free_of flags)
 first_free-lowest first block flags f =
     let from = f.from in
@@ -188,11 +189,11 @@ first_free-lowest first block flags f =
     free_from-free_of first flags
     ∙ skipped flags first (block - first) (omega (arith, there, within)) (λ k low high. f.lowest k low (omega (arith, high, there)))
     ∙ ap (λ j. addresses_behind j flags) there
-    ∙ free_here flags block within f.free
+    ∙ free_here flags block within f.is_set
     ∙ ap (λ l. block_address block ∷ l) (sym (free_from-free_of (block + 1) flags))
 
 -- and where no block from there on is free, there is none
-pub none_free : (first : ℕ) (flags : List Bool) → AreTaken first (length flags) flags → free_from first (free_of flags) ≡ []
+pub none_free : (first : ℕ) (flags : List Bool) → AreClear first (length flags) flags → free_from first (free_of flags) ≡ []
 none_free first flags taken = free_from-free_of first flags ∙ all_taken (first - length flags) refl
   where
     all_taken : (past : ℕ) → first - length flags ≡ past → addresses_behind first flags ≡ []

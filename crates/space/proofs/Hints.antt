@@ -1,25 +1,11 @@
--- The hint at the lowest free block, after a block is taken or given, and where to look for a free one by it.
-use Rattle.std.proofs.Common.{◌≡◌, ℕ, zero, suc, ◌<◌, ◌≤◌, Bool, true, false, List, [], ◌∷◌, length, max, min, get_or, ◌⊎◌, inl, inr, refl, sym, subst, ◌∙◌, arith}
+-- The hint at the lowest free block, after a block is taken or given.
+use Rattle.std.proofs.Common.{◌≡◌, ℕ, zero, suc, ◌<◌, ◌≤◌, Bool, true, false, List, [], ◌∷◌, length, min, get_or, ◌⊎◌, inl, inr, refl, sym, subst, ◌∙◌, arith}
 use Rattle.std.specs.Prelude.{replicate}
 use Rattle.std.proofs.Math.ListN.{set as list_set}
 use Rattle.std.proofs.lemmas.Bool.{cases_lt}
 use Rattle.std.proofs.lemmas.List.{get_or-set_other, get_or-set_same, length-set}
-use Rattle.space.specs.Flags.{AreTaken, IsFirstFree, IsHint}
-
--- below the hint no block is free: it suffices to look from there on
-pub taken_from : (first hint last : ℕ) (flags : List Bool) → AreTaken 0 hint flags → AreTaken (max first hint) last flags → AreTaken first last flags
-taken_from first hint last flags below rest k low high = elim (cases_lt k hint) as (λ _. get_or flags k false ≡ false) [
-  | inl less ↦ below k (omega arith) less
-  | inr more ↦ rest k (omega (arith, low, more)) high
-]
-
-pub first_from : (first hint block : ℕ) (flags : List Bool) → AreTaken 0 hint flags → IsFirstFree (max first hint) flags block → IsFirstFree first flags block
-first_from first hint block flags below f = record {
-  from = (let from = f.from in omega (arith, from));
-  within = f.within;
-  free = f.free;
-  lowest = taken_from first hint block flags below f.lowest;
-}
+use Rattle.space.specs.SetFlags.{AreClear}
+use Rattle.space.specs.Flags.{IsHint}
 
 cleared : (flags : List Bool) (i k : ℕ) → get_or flags k false ≡ false → get_or (list_set flags i false) k false ≡ false
 cleared [] i k is = is
@@ -29,11 +15,11 @@ cleared (b ∷ flags) (suc i) zero is = is
 cleared (b ∷ flags) (suc i) (suc k) is = cleared flags i k is
 
 -- a block that is taken leaves those below the hint taken
-pub still_taken : (hint i : ℕ) (flags : List Bool) → AreTaken 0 hint flags → AreTaken 0 hint (list_set flags i false)
+pub still_taken : (hint i : ℕ) (flags : List Bool) → AreClear 0 hint flags → AreClear 0 hint (list_set flags i false)
 still_taken hint i flags taken k from below = cleared flags i k (taken k from below)
 
 -- and one that is given those below it too
-taken_below : (hint i : ℕ) (flags : List Bool) → AreTaken 0 hint flags → AreTaken 0 (min hint i) (list_set flags i true)
+taken_below : (hint i : ℕ) (flags : List Bool) → AreClear 0 hint flags → AreClear 0 (min hint i) (list_set flags i true)
 taken_below hint i flags taken k from below =
     get_or-set_other flags i k true false (λ same. omega (arith, below, same)) ∙ taken k from (omega (arith, below))
 

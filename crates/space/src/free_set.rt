@@ -1,19 +1,22 @@
 //! The free blocks of a pool, and what is reserved of them (`metaslab.c`, `dsl_dir.c`).
 //!
-//! A flag for each block says whether it is free. Beside the flags stand counts that are kept with each change, and a
-//! hint: the lowest free block. Taking that block moves it up to the next free one, and giving a lower one moves it
-//! down. So the lowest free block is found at once, and a count is a look at a field.
+//! A flag for each block says whether it is free. The flags are bits, with a count for each region of them
+//! (`counted_flags`). Beside them stand counts that are kept with each change, and a hint: the lowest free block.
+//! Taking that block moves it up to the next free one, and giving a lower one moves it down. So the lowest free block
+//! is found at once, and a count is a look at a field.
 //!
 //! A transaction reserves the blocks that its sync may take, before it begins. They stay reserved until its group is
 //! synced. What the syncing group has taken is counted apart, for it is in its own reservation: the blocks that are
 //! available are those that are free, except what is reserved and not yet taken.
 
-ghost use Rattle.std.specs.Prelude.{◌≡◌, ◌+◌, ◌<◌, ◌≤◌, ◌∷◌, [], ◌↔◌, IsErr, IsTrue, IfErr, IfNone, IfOk, IfSome, OnErr, OnOk, false, get_or, length};
+ghost use Rattle.std.specs.Prelude.{◌≡◌, ◌+◌, ◌<◌, ◌≤◌, ◌∷◌, [], ◌↔◌, IsErr, IsTrue, IfErr, IfNone, IfOk, IfSome, OnErr, OnOk};
 ghost use Rattle.std.specs.FinSet as set;
 ghost use Rattle.base.specs.formats.Geometry.{block_address};
 ghost use Rattle.space.specs.FreeSets.{AreBlockAddresses, AreNotFree, HasAllOf, IsIdle, IsLowestFree, after_give, after_reserve, after_sync_end, after_sync_take, after_take, after_unreserve, available_in, free_from, is_free, is_short, most_taken};
-ghost use Rattle.space.specs.Flags.{AreTaken, IsFirstFree, IsHint};
+ghost use Rattle.space.specs.SetFlags.{AreClear};
+ghost use Rattle.space.specs.Flags.{IsHint};
 
+use crate::counted_flags::CountedFlags;
 use base::PoolError;
 use std::alloc::{AllocError, Global};
 use std::marker::Model;
@@ -23,7 +26,7 @@ use std::marker::Model;
 #[derive(Drop)]
 pub struct FreeSet {
     // whether the block of each index is free
-    flags: Vec<bool>,
+    flags: CountedFlags,
     // the lowest free block, or the number of blocks if none is free
     hint: usize,
     // how many blocks are free
@@ -54,7 +57,7 @@ impl FreeSet {
         ensures idle { IfOk result IsIdle }
     {
         Ok(FreeSet {
-            flags: vec![in alloc; true; blocks]?,
+            flags: CountedFlags::all_set(alloc, blocks)?,
             hint: 0,
             free: blocks as u64,
             reserved: 0,
@@ -67,7 +70,7 @@ impl FreeSet {
         ensures { IfOk result (λ copy. copy ≡ self.now) }
     {
         Ok(FreeSet {
-            flags: Vec::from_slice(alloc, &self.flags)?,
+            flags: self.flags.copy(alloc)?,
             hint: self.hint,
             free: self.free,
             reserved: self.reserved,
@@ -105,7 +108,7 @@ impl FreeSet {
     pub fn is_free(&self, block: usize) -> bool
         ensures { result ≡ is_free block self.now }
     {
-        is_set(&self.flags, block)
+        self.flags.get(block)
     }
 
     /// The lowest free block from this one on. `None` if there is none, or if the set has no such block.
@@ -118,17 +121,17 @@ impl FreeSet {
             ≡ block_address block ∷ free_from (block + 1) self.now.free) }
         ensures none { IfNone result (free_from first self.now.free ≡ []) }
     {
-        first_free(&self.flags, first.max(self.hint))
+        self.flags.first_set(first.max(self.hint))
     }
 
     /// The block is taken. One that is not free, or that the set does not have, changes nothing. It takes no memory.
     pub fn take(&mut self, block: usize)
         ensures { self.new ≡ after_take block self.old }
     {
-        if !is_set(&self.flags, block) {
+        if !self.flags.get(block) {
             return;
         }
-        self.flags[block] = false;
+        self.flags.clear(block);
         self.free -= 1;
         self.hint = raised(&self.flags, self.hint);
     }
@@ -138,8 +141,8 @@ impl FreeSet {
         ensures given { block < self.old.blocks → self.new ≡ after_give block self.old }
         ensures unchanged { self.old.blocks ≤ block → self.new ≡ self.old }
     {
-        if block < self.flags.len() && !is_set(&self.flags, block) {
-            self.flags[block] = true;
+        if block < self.flags.len() && !self.flags.get(block) {
+            self.flags.set(block);
             self.free += 1;
             self.hint = self.hint.min(block);
         }
@@ -212,34 +215,13 @@ impl FreeSet {
     }
 }
 
-// Whether a block has a flag, and it is free by it.
-fn is_set(flags: &[bool], block: usize) -> bool
-    ensures flag { result ≡ get_or flags.now block false }
-    ensures within { IsTrue result → block < length flags.now }
-{
-    block < flags.len() && flags[block]
-}
-
 // The hint at the lowest free block, or after the last block if none is free. No block below the given hint is free.
-fn raised(flags: &[bool], hint: usize) -> usize
-    requires { AreTaken 0 hint flags.now }
+fn raised(flags: &CountedFlags, hint: usize) -> usize
+    requires { AreClear 0 hint flags.now }
     ensures { IsHint flags.now result }
 {
-    match first_free(flags, hint) {
+    match flags.first_set(hint) {
         Some(block) => block,
         None => flags.len(),
     }
-}
-
-// The first free block from this one on.
-fn first_free(flags: &[bool], first: usize) -> Option<usize>
-    ensures found { IfSome result (IsFirstFree first flags.now) }
-    ensures none { IfNone result (AreTaken first (length flags.now) flags.now) }
-{
-    for block in first..flags.len() {
-        if flags[block] {
-            return Some(block);
-        }
-    }
-    None
 }
