@@ -1,10 +1,12 @@
 //! What callers rest on: one function for each promise of this crate's calls, proved from the contract of the call
 //! alone. So it is refused as soon as that contract says less.
 
-ghost use Rattle.std.specs.Prelude.{◌≡◌, ◌≤◌, IfOk, IfSome, IsErrOf, IsTrue, false, true};
+ghost use Rattle.std.specs.Prelude.{◌≡◌, ◌≤◌, ◌<◌, IfOk, IfSome, IsErrOf, IsSome, IsTrue, false, get_or, length, true};
 ghost use Rattle.std.specs.FinSet as set;
 ghost use Rattle.space.specs.FreeSets.{is_free};
 
+use crate::bit_flags::BitFlags;
+use crate::counted_flags::CountedFlags;
 use crate::free_set::FreeSet;
 use base::PoolError;
 use std::alloc::{AllocError, Global};
@@ -144,4 +146,96 @@ fn a_copy_has_the_same_free_blocks(alloc: Global, free: &FreeSet) -> Result<(), 
     let high = copy.is_free(4);
     prove!(low && !high);
     Ok(())
+}
+
+fn all_flags_that_there_are_are_set(alloc: Global) -> Result<(), AllocError> {
+    let flags = BitFlags::all_set(alloc, 70)?;
+    let last = flags.get(69);
+    let past = flags.get(70);
+    let count = flags.len();
+    prove!(last);
+    prove!(!past);
+    prove!(count == 70);
+    Ok(())
+}
+
+fn flags_of_a_copy_are_the_same(alloc: Global, flags: &BitFlags) -> Result<(), AllocError>
+    requires low { get_or flags.now 3 false ≡ true }
+    requires high { get_or flags.now 4 false ≡ false }
+{
+    let copy = flags.copy(alloc)?;
+    let low = copy.get(3);
+    let high = copy.get(4);
+    prove!(low && !high);
+    Ok(())
+}
+
+// It is set, and one that was clear beside it stays so.
+fn one_flag_alone_is_set(flags: &mut BitFlags)
+    requires there { 69 < length flags.old }
+    requires beside { get_or flags.old 68 false ≡ false }
+{
+    flags.set(69);
+    let is_set = flags.get(69);
+    let beside = flags.get(68);
+    prove!(is_set && !beside);
+}
+
+// It is cleared, and one that was set beside it stays so.
+fn one_flag_alone_is_cleared(flags: &mut BitFlags)
+    requires there { 69 < length flags.old }
+    requires beside { get_or flags.old 68 false ≡ true }
+{
+    flags.clear(69);
+    let is_set = flags.get(69);
+    let beside = flags.get(68);
+    prove!(!is_set && beside);
+}
+
+// Flag 69 is set and lies from flag 1 on and before flag 100: a set flag is found, and it's no later one.
+fn a_search_finds_a_set_flag(flags: &BitFlags) -> Option<usize>
+    requires { get_or flags.now 69 false ≡ true }
+    ensures found { IsSome result }
+    ensures first { IfSome result (λ flag. flag ≤ 69) }
+{
+    flags.first_set(1, 100)
+}
+
+fn a_flag_that_is_found_is_set_and_in_the_range(flags: &BitFlags) -> Option<usize>
+    ensures set { IfSome result (λ flag. get_or flags.now flag false ≡ true) }
+    ensures from { IfSome result (λ flag. 1 ≤ flag) }
+    ensures before { IfSome result (λ flag. flag < 100) }
+{
+    flags.first_set(1, 100)
+}
+
+// Flag 40000 is of the second region.
+fn a_search_over_regions_finds_a_set_flag(flags: &CountedFlags) -> Option<usize>
+    requires { get_or flags.now 40000 false ≡ true }
+    ensures found { IsSome result }
+    ensures first { IfSome result (λ flag. flag ≤ 40000) }
+    ensures set { IfSome result (λ flag. get_or flags.now flag false ≡ true) }
+{
+    flags.first_set(1)
+}
+
+fn one_counted_flag_alone_is_cleared(flags: &mut CountedFlags)
+    requires set { get_or flags.old 69 false ≡ true }
+    requires beside { get_or flags.old 68 false ≡ true }
+{
+    flags.clear(69);
+    let is_set = flags.get(69);
+    let beside = flags.get(68);
+    prove!(!is_set && beside);
+}
+
+fn one_counted_flag_alone_is_set(flags: &mut CountedFlags)
+    requires there { 69 < length flags.old }
+    requires clear { get_or flags.old 69 false ≡ false }
+    requires beside { get_or flags.old 68 false ≡ false }
+{
+    flags.set(69);
+    let is_set = flags.get(69);
+    let beside = flags.get(68);
+    prove!(is_set && !beside);
 }
