@@ -91,6 +91,12 @@ impl RecordPatch {
         ensures bytes { (k : ℕ) → k < length into.old → get_or into.new k 0
             ≡ unwrap_or (bytes_written self.now (start + k)) (get_or into.old k 0) }
     {
+        let size = into.len();
+        let end = self.bytes.len().min(RECORD_SIZE);
+        if size <= end && start <= end - size && self.covers(start, size) {
+            into.copy_from_slice(&self.bytes[start..start + size]);
+            return;
+        }
         let bytes = self.bytes.as_slice();
         let mask = self.mask.as_slice();
         let count = mask.len().saturating_sub(start).min(into.len());
