@@ -1,5 +1,5 @@
 pub mod Refused
-pub mod SurveyedPools
+pub mod ReadForInspection
 pub mod UsedBlocks
 pub mod ChainRecords
 pub mod Inspections

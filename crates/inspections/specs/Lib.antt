@@ -1,5 +1,5 @@
 pub mod Refused
 pub mod Inspections
 pub mod PoolDamages
-pub mod SurveyedPools
+pub mod ReadForInspection
 pub mod Views

@@ -1,25 +1,28 @@
-//! What an import would mount, found by reads alone. No object's bytes and no pointer to a record stay in memory. The
-//! lengths of the objects are reported.
+//! What an import would mount, found by reads alone: the name, the numbers, and the lengths of the objects. An import
+//! reads and replays by the same functions.
 
-ghost use Rattle.std.specs.Prelude.{◌≡◌, ℕ, Bool, IfErr, IfOk, IsTrue, List, OnOk};
+ghost use Rattle.std.specs.Prelude.{◌≡◌, ℕ, IfErr, IfOk, IsTrue, List, OnOk, length, unwrap_or};
 ghost use Rattle.base.specs.disk.Disk.{bytes_of};
 ghost use Rattle.base.specs.formats.Geometry.{IsGeometry, block_count};
 ghost use Rattle.base.specs.tree.Mount.{IsChainDamaged};
 ghost use Rattle.device_model.specs.Reading.{OnlyReads};
+ghost use Rattle.extents.specs.Tables.{name_of};
 ghost use Rattle.log_replay.specs.Replays.{IsReplayCause};
+ghost use Rattle.trees.specs.FreeBlocks.{AreUnnamed};
 ghost use Rattle.uberblocks.specs.Slots.{fields_of};
+ghost use Rattle.import_replay.specs.ReadPools.{IsLoadedFor, IsReadPool};
 ghost use Rattle.inspections.specs.Inspections.{AgreesWithImports, IsInspectedFrom, IsInspectionOf, IsToldOfBounded};
 ghost use Rattle.inspections.specs.Refused.{IsInspectionRefused};
-ghost use Rattle.inspections.specs.SurveyedPools.{IsSurveyedFor};
 
-use crate::surveying::{Surveyed, survey_pool};
+use crate::object_lists::list_objects;
 use base::{Group, ObjectId, PoolError, PoolName};
 use device_model::SectorDevice;
-use import_replay::take_logged;
+use extents::Laid;
+use import_replay::{Found, ReplayedPool, read_pool, replay_pool};
+use intent_log::LoggedPiece;
 use labels::Geometry;
-use log_replay::Outline;
-use space::FreeSet;
 use std::alloc::Global;
+use trees::Loaded;
 use uberblocks::Uberblock;
 
 /// What an import would mount, with its numbers.
@@ -44,8 +47,8 @@ pub struct Inspected {
 }
 
 /// Reports what an import of the pool on a device would mount. It makes no write and no flush, also if it is refused,
-/// and sees what a read returns, flushed or not. The log records that an import would apply are replayed on the name
-/// and the lengths alone.
+/// and sees what a read returns, flushed or not. No object's bytes stay in memory, but those of the log records that an
+/// import would apply.
 ///
 /// # Errors
 /// In this order: `BadGeometry`, before any device call; `NoPool`; `Damaged` with the first damage of the tree, or with
@@ -67,65 +70,48 @@ pub fn inspect<D: SectorDevice>(alloc: Global, device: &mut D) -> Result<Inspect
         (IsInspectionRefused D.SectorDevice device.old device.new) }
 {
     let geometry = Geometry::of(device.sectors())?;
-    let surveyed = survey_pool(alloc, device, geometry)?;
-    report(alloc, geometry, surveyed)
+    let (found, loaded, logged) = read_pool(alloc, device, geometry)?;
+    report(alloc, geometry, &found, loaded, logged)
 }
 
-// What an import would mount of a pool that was surveyed: the records of its chain are replayed on the name and the
-// lengths. It is refused `Damaged` for the first record that can't take place.
+// What an import would mount of a pool that was read: the records of its chain are replayed. It is refused `Damaged` for
+// the first record that can't take place.
 pub(crate) fn report(
     alloc: Global,
     geometry: Geometry,
-    surveyed: Surveyed,
+    found: &Found,
+    loaded: Loaded,
+    logged: Vec<LoggedPiece>,
 ) -> Result<Inspected, PoolError>
-    requires surveyed { (keeps : Bool) × (image : List ℕ)
-        × IsSurveyedFor keeps image geometry surveyed }
-    ensures mounted { (keeps : Bool) (image : List ℕ) → IsTrue keeps
-        → IsSurveyedFor keeps image geometry surveyed
+    requires loaded { IsLoadedFor (fields_of found.now.uberblock) (block_count geometry)
+        loaded.tree loaded.slots.items logged.items }
+    requires free { AreUnnamed (block_count geometry) loaded.tree loaded.free }
+    ensures mounted { (image : List ℕ) → IsReadPool image geometry (fields_of found.now.uberblock)
+        found.now.name loaded.tree loaded.slots.items logged.items
         → IfOk result (λ i. IsInspectionOf image i × AgreesWithImports image i) }
     ensures bounded { IfOk result IsToldOfBounded }
     ensures cause { IfErr result IsReplayCause }
-    ensures damaged { (keeps : Bool) (image : List ℕ) → IsTrue keeps
-        → IsSurveyedFor keeps image geometry surveyed
+    ensures damaged { (image : List ℕ) → IsReadPool image geometry (fields_of found.now.uberblock)
+        found.now.name loaded.tree loaded.slots.items logged.items
         → IfErr result (λ e. (address : ℕ) → e ≡ PoolError.Damaged 6 address
         → IsChainDamaged image address) }
 {
-    let Surveyed {
-        found,
-        tree,
-        mut free,
-        logged,
-    } = surveyed;
-    take_logged(&mut free, geometry, &logged);
-    let mut outline = Outline {
-        name: found.name,
-        tree,
-    };
-    let records = outline.replay(found.uberblock.group, &logged)?;
-    let lengths = outline.tree.list_objects(alloc)?;
-    Ok(tell(
-        geometry,
-        &found.uberblock,
-        outline.name,
-        lengths,
-        records,
-        &free,
-    ))
+    let pool = replay_pool(alloc, geometry, found, loaded, logged)?;
+    let objects = list_objects(alloc, &Laid::new(&pool.replayed.extents, &pool.synced))?;
+    Ok(tell(geometry, &found.uberblock, &pool, objects))
 }
 
-// The report on a pool that was read, with the lengths of its objects, how many records its chain has above its group,
-// and its free blocks.
+// The report on a pool whose records were replayed, with its objects after these.
 fn tell(
     geometry: Geometry,
     uberblock: &Uberblock,
-    name: PoolName,
-    lengths: Vec<(ObjectId, u64)>,
-    records: u64,
-    free: &FreeSet,
+    pool: &ReplayedPool,
+    objects: Vec<(ObjectId, u64)>,
 ) -> Inspected
-    requires { free.now.blocks ≡ block_count geometry }
-    ensures { IsInspectedFrom (fields_of uberblock.now) name lengths.items records
-        (block_count geometry) free.now.free result }
+    requires { pool.now.spare.blocks ≡ block_count geometry }
+    ensures { IsInspectedFrom (fields_of uberblock.now)
+        (unwrap_or (name_of pool.now.replayed.extents) pool.now.synced.name) objects.items
+        (length pool.now.replayed.records.items) (block_count geometry) pool.now.spare.free result }
 {
     let blocks = geometry.blocks();
     Inspected {
@@ -133,9 +119,9 @@ fn tell(
         group: uberblock.group,
         import_number: uberblock.import_number,
         blocks,
-        used: blocks - free.free(),
-        records,
-        name,
-        objects: lengths,
+        used: blocks - pool.spare.free(),
+        records: pool.replayed.records.len() as u64,
+        name: pool.replayed.extents.name_over(&pool.synced.name).copy(),
+        objects,
     }
 }

@@ -6,9 +6,10 @@
 
 mod damages;
 mod inspection;
-mod surveying;
+mod object_lists;
 mod viewing;
 
 pub use damages::{Soundness, find_damages};
 pub use inspection::{Inspected, inspect};
+pub use object_lists::list_objects;
 pub use viewing::{View, view_pool};

@@ -10,16 +10,14 @@ ghost use Rattle.base.specs.tree.Places.{IsPlace, Place, directory_pointer, kind
 ghost use Rattle.base.specs.tree.Places.Place.{Directory, Root};
 ghost use Rattle.space.specs.FreeSets.{is_free};
 ghost use Rattle.tree_blocks.specs.Lengths.{lengths_of};
-ghost use Rattle.trees.specs.Surveys.{damages_of};
+ghost use Rattle.trees.specs.Examined.{damages_of};
 ghost use Rattle.trees.specs.declared.damages.BlockDamage.{BlockDamage};
 
 use base::{Pointer, PoolError};
 use checked_blocks::Frame;
 use device_model::SectorDevice;
-use space::FreeSet;
 use std::alloc::Global;
-use tree_blocks::Tree;
-use trees::{BlockDamage, Examined, examine};
+use trees::{BlockDamage, Examined, Loaded, examine};
 
 // A damage that is listed is that of a place of the tree that isn't sound: its kind, and the address of its pointer.
 fn a_listed_damage_is_one<D: SectorDevice>(
@@ -126,7 +124,7 @@ fn a_tree_with_a_damaged_directory_is_not_whole<D: SectorDevice>(
 {
     let examined = examine(alloc, device, frame, root)?;
     match examined {
-        Examined::Whole { .. } => unreachable!(),
+        Examined::Whole(_) => unreachable!(),
         Examined::Damaged(damages) => Ok(damages),
     }
 }
@@ -137,16 +135,16 @@ fn a_sound_tree_is_whole<D: SectorDevice>(
     device: &mut D,
     frame: &Frame,
     root: Pointer,
-) -> Result<(Tree, FreeSet), PoolError>
+) -> Result<Loaded, PoolError>
     requires fits { block_address frame.now.blocks ≤ D.size device.old }
     requires keeps { IsTrue D.keeps_model }
     requires sound { (place : Place) → IsPlace place
         → IsSoundAt (bytes_of (D.disk device.old).now) frame.now root place }
-    ensures { IfOk result (λ t. t.0.root ≡ root) }
+    ensures { IfOk result (λ l. l.tree.root ≡ root) }
 {
     let examined = examine(alloc, device, frame, root)?;
     match examined {
-        Examined::Whole { tree, free } => Ok((tree, free)),
+        Examined::Whole(loaded) => Ok(loaded),
         Examined::Damaged(_) => unreachable!(),
     }
 }
@@ -157,15 +155,15 @@ fn a_whole_tree_has_its_root<D: SectorDevice>(
     device: &mut D,
     frame: &Frame,
     root: Pointer,
-) -> Result<Option<FreeSet>, PoolError>
+) -> Result<Option<Loaded>, PoolError>
     requires fits { block_address frame.now.blocks ≤ D.size device.old }
     requires area { 0 < frame.now.blocks }
     requires root { root.address ≡ 4194304 }
-    ensures { IfOk result (λ o. IfSome o (λ free. is_free 0 free ≡ false)) }
+    ensures { IfOk result (λ o. IfSome o (λ l. is_free 0 l.free ≡ false)) }
 {
     let examined = examine(alloc, device, frame, root)?;
     match examined {
-        Examined::Whole { free, .. } => Ok(Some(free)),
+        Examined::Whole(loaded) => Ok(Some(loaded)),
         Examined::Damaged(_) => Ok(None),
     }
 }
@@ -176,7 +174,7 @@ fn a_whole_tree_has_the_lengths_of_entries<D: SectorDevice>(
     device: &mut D,
     frame: &Frame,
     root: Pointer,
-) -> Result<Option<Tree>, PoolError>
+) -> Result<Option<Loaded>, PoolError>
     requires fits { block_address frame.now.blocks ≤ D.size device.old }
     requires keeps { IsTrue D.keeps_model }
     requires there { directory_pointer (bytes_of (D.disk device.old).now) root 0 ≢ no_pointer }
@@ -184,11 +182,11 @@ fn a_whole_tree_has_the_lengths_of_entries<D: SectorDevice>(
         (directory_pointer (bytes_of (D.disk device.old).now) root 0).address) 7) ≡ 1 }
     requires length { entry_length (entry_in (payload_at (bytes_of (D.disk device.old).now)
         (directory_pointer (bytes_of (D.disk device.old).now) root 0).address) 7) ≡ 100 }
-    ensures { IfOk result (λ o. IfSome o (λ t. lengths_of t 7 ≡ Some 100)) }
+    ensures { IfOk result (λ o. IfSome o (λ l. lengths_of l.tree 7 ≡ Some 100)) }
 {
     let examined = examine(alloc, device, frame, root)?;
     match examined {
-        Examined::Whole { tree, .. } => Ok(Some(tree)),
+        Examined::Whole(loaded) => Ok(Some(loaded)),
         Examined::Damaged(_) => Ok(None),
     }
 }

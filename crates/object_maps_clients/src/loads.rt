@@ -19,10 +19,8 @@ ghost use Rattle.space.specs.FreeSets.{is_free};
 use base::{Pointer, PoolError};
 use checked_blocks::Frame;
 use device_model::SectorDevice;
-use space::FreeSet;
 use std::alloc::Global;
-use tree_blocks::Tree;
-use trees::{Loaded, load, survey};
+use trees::{Loaded, load};
 
 // A root that was born after the newest group is reported as damaged, by its address, unless memory or a read is
 // refused.
@@ -59,25 +57,6 @@ fn a_damaged_directory_is_not_loaded<D: SectorDevice>(
     ensures { IsLoadRefusal result }
 {
     match load(alloc, device, frame, root) {
-        Ok(_) => unreachable!(),
-        Err(e) => e,
-    }
-}
-
-// No survey of it is made, either.
-fn a_damaged_directory_is_not_surveyed<D: SectorDevice>(
-    alloc: Global,
-    device: &mut D,
-    frame: &Frame,
-    root: Pointer,
-) -> PoolError
-    requires fits { block_address frame.now.blocks ≤ D.size device.old }
-    requires keeps { IsTrue D.keeps_model }
-    requires damaged { IsSoundAt (bytes_of (D.disk device.old).now) frame.now root (Directory 5)
-        → ⊥ }
-    ensures { IsLoadRefusal result }
-{
-    match survey(alloc, device, frame, root) {
         Ok(_) => unreachable!(),
         Err(e) => e,
     }
@@ -131,13 +110,13 @@ fn a_refused_read_is_told_as_one<D: SectorDevice>(
     load(alloc, device, frame, root)
 }
 
-// A survey has the length that the entry of an object has.
-fn a_survey_has_the_lengths_of_entries<D: SectorDevice>(
+// A tree that is loaded has the length that the entry of an object has.
+fn a_load_has_the_lengths_of_entries<D: SectorDevice>(
     alloc: Global,
     device: &mut D,
     frame: &Frame,
     root: Pointer,
-) -> Result<Tree, PoolError>
+) -> Result<Loaded, PoolError>
     requires fits { block_address frame.now.blocks ≤ D.size device.old }
     requires keeps { IsTrue D.keeps_model }
     requires there { directory_pointer (bytes_of (D.disk device.old).now) root 0 ≢ no_pointer }
@@ -145,10 +124,10 @@ fn a_survey_has_the_lengths_of_entries<D: SectorDevice>(
         (directory_pointer (bytes_of (D.disk device.old).now) root 0).address) 7) ≡ 1 }
     requires length { entry_length (entry_in (payload_at (bytes_of (D.disk device.old).now)
         (directory_pointer (bytes_of (D.disk device.old).now) root 0).address) 7) ≡ 100 }
-    ensures { IfOk result (λ t. lengths_of t 7 ≡ Some 100) }
+    ensures { IfOk result (λ l. lengths_of l.tree 7 ≡ Some 100) }
 {
-    let (tree, _free) = survey(alloc, device, frame, root)?;
-    Ok(tree)
+    let loaded = load(alloc, device, frame, root)?;
+    Ok(loaded)
 }
 
 // The block of the root is not free once a tree is loaded.
@@ -164,19 +143,4 @@ fn the_block_of_the_root_is_not_free<D: SectorDevice>(
     ensures { IfOk result (λ l. is_free 0 l.free ≡ false) }
 {
     load(alloc, device, frame, root)
-}
-
-// Nor is it once the tree is surveyed.
-fn a_surveyed_root_is_not_free<D: SectorDevice>(
-    alloc: Global,
-    device: &mut D,
-    frame: &Frame,
-    root: Pointer,
-) -> Result<(Tree, FreeSet), PoolError>
-    requires fits { block_address frame.now.blocks ≤ D.size device.old }
-    requires area { 0 < frame.now.blocks }
-    requires root { root.address ≡ 4194304 }
-    ensures { IfOk result (λ t. is_free 0 t.1 ≡ false) }
-{
-    survey(alloc, device, frame, root)
 }

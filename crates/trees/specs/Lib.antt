@@ -8,4 +8,4 @@ pub mod DamageLists
 pub mod Noted
 pub mod Loaders
 pub mod ReadAhead
-pub mod Surveys
+pub mod Examined

@@ -6,6 +6,9 @@ use Rattle.base.specs.declared.pointer.Pointer.{Pointer}
 use Rattle.base.specs.disk.Disk.{Disk, bytes_of}
 use Rattle.tree_blocks.specs.declared.tree.ObjectEntry.{ObjectEntry}
 use Rattle.tree_blocks.specs.declared.forms.Entry.{Entry}
+use Rattle.contents.specs.ContentsShown.{objects_of}
+use Rattle.tree_blocks.specs.Lengths.{HaveLengthsOf}
+use Rattle.trees.specs.declared.objects.Objects.{Objects}
 use Rattle.trees.specs.FreeBlocks.{AreMarked}
 use Rattle.trees.specs.Loading.{AreEmptyFrom}
 use Rattle.space.specs.FreeSets.{FreeSpace}
@@ -14,15 +17,18 @@ use Rattle.space.specs.FreeSets.{FreeSpace}
 abbrev pub OnWalk : Bool → Disk → (List ℕ → Pointer → Type 0) → Type 0
 OnWalk keeps disk P = IsTrue keeps → (image : List ℕ) (root : Pointer) → bytes_of disk.now ≡ image → P image root
 
--- The sink stands for objects of which none is there from this number on. After a load it stands for other objects, and
--- this is true of both and of the entries. The blocks that the new entries name are taken.
-abbrev pub LoadsFrom : {S : Type 0} → ℕ → (S → FinMap nat_cmp (List ℕ) → Type 0) → (S → List ObjectEntry) → S → S → FreeSpace → FreeSpace
-    → (FinMap nat_cmp (List ℕ) → FinMap nat_cmp (List ℕ) → List ObjectEntry → List ObjectEntry → Type 0) → Type 0
-LoadsFrom start stands_for entries old new free left P =
-    (before : FinMap nat_cmp (List ℕ)) → stands_for old before → AreEmptyFrom start before (entries old)
-    → (after : FinMap nat_cmp (List ℕ)) × stands_for new after
-    × ((blocks : ℕ) → AreMarked (entries old) blocks free → AreMarked (entries new) blocks left)
-    × P before after (entries old) (entries new)
+-- slots and entries stand for these objects
+abbrev pub StandFor : Objects → FinMap nat_cmp (List ℕ) → Type 0
+StandFor o objects = (objects_of o.slots.items ≡ objects) × HaveLengthsOf o.entries.items objects
+
+-- Slots and entries stand for objects of which none is there from this number on. After a walk they stand for other
+-- objects, and this is true of both and of the entries. The blocks that the new entries name are taken.
+abbrev pub LoadsFrom : ℕ → Objects → Objects → FreeSpace → FreeSpace → (FinMap nat_cmp (List ℕ) → FinMap nat_cmp (List ℕ) → List ObjectEntry → List ObjectEntry → Type 0) → Type 0
+LoadsFrom start old new free left P =
+    (before : FinMap nat_cmp (List ℕ)) → StandFor old before → AreEmptyFrom start before old.entries.items
+    → (after : FinMap nat_cmp (List ℕ)) × StandFor new after
+    × ((blocks : ℕ) → AreMarked old.entries.items blocks free → AreMarked new.entries.items blocks left)
+    × P before after old.entries.items new.entries.items
 
 -- an object has the length and the pointer that its entry has
 pub record IsObjectOf (entry : Entry) (bytes : List ℕ) (kept : ObjectEntry) : Type 0 where

@@ -6,16 +6,15 @@ ghost use Rattle.base.specs.disk.Disk.{bytes_of};
 ghost use Rattle.base.specs.formats.Geometry.{block_address};
 ghost use Rattle.device_model.specs.Reading.{OnlyReads};
 ghost use Rattle.trees.specs.DamageLists.{IsListRefusal, ListsDamages};
-ghost use Rattle.trees.specs.Surveys.{IsExamined, damages_of};
+ghost use Rattle.trees.specs.Examined.{IsExamined, damages_of};
 
+use crate::objects::Loaded;
 use crate::one_walk::Damages;
-use crate::walk::walk_lengths;
+use crate::walk::walk_through;
 use base::{Pointer, PoolError};
 use checked_blocks::Frame;
 use device_model::SectorDevice;
-use space::FreeSet;
 use std::alloc::Global;
-use tree_blocks::Tree;
 
 /// A block that is damaged, as `PoolError::Damaged` names it.
 #[derive(Clone, Copy, Debug, PartialEq, Eq)]
@@ -29,18 +28,13 @@ pub struct BlockDamage {
 /// What a walk of a tree finds.
 #[derive(Drop)]
 pub enum Examined {
-    /// No block is damaged.
-    Whole {
-        /// The tree's pointers down to what its directories name, and the lengths of its objects.
-        tree: Tree,
-        /// The blocks that no pointer of the tree names.
-        free: FreeSet,
-    },
+    /// No block is damaged: this is what `load` gives.
+    Whole(Loaded),
     /// These blocks are damaged, at least one, in the order of the walk.
     Damaged(Vec<BlockDamage>),
 }
 
-/// Walks the tree under a root pointer to its end, also after a damage. It finds what `survey` does, or each damage in
+/// Walks the tree under a root pointer to its end, also after a damage. It gives what `load` does, or each damage in
 /// the order of the walk: the root, then each directory, and for its entries the top and each indirect block with its
 /// records, all rising. What lies below a damaged block isn't read, everything else is.
 ///
@@ -56,7 +50,7 @@ pub fn examine<D: SectorDevice>(
     ensures reads { OnlyReads D.SectorDevice result device.old device.new }
     ensures cause { IfErr result IsListRefusal }
 
-    // A tree that is whole is as `survey` gives it.
+    // A tree that is whole is as `load` gives it.
     ensures examined { IfOk result
         (IsExamined D.keeps_model (bytes_of (D.disk device.old).now) frame.now root) }
 
@@ -65,5 +59,5 @@ pub fn examine<D: SectorDevice>(
     ensures listed { IsTrue D.keeps_model → IfOk result (λ e.
         ListsDamages (bytes_of (D.disk device.old).now) frame.now root (damages_of e)) }
 {
-    walk_lengths(alloc, device, frame, root, Damages::all(alloc))
+    walk_through(alloc, device, frame, root, Damages::all(alloc))
 }

@@ -1,4 +1,4 @@
-//! What is read of a whole tree, in the order of its walk: its load, its survey, and all its damages.
+//! What is read of a whole tree, in the order of its walk: its load, and all its damages.
 #![tactic(auto)]
 
 mod damages;
@@ -15,5 +15,6 @@ mod walk;
 pub use damages::{BlockDamage, Examined, examine};
 pub use entry_lists::list_entries;
 pub use laws::trees_are_by_paths;
+pub use objects::Loaded;
 pub use paths::find_entry;
-pub use walk::{Loaded, load, survey};
+pub use walk::load;

@@ -28,7 +28,7 @@ ghost use Rattle.tree_blocks.specs.Pointers.{TellsStrip, long_pointers, pointer_
 
 use crate::damages::BlockDamage;
 use crate::marks::{take_block, take_named};
-use crate::objects::ObjectSink;
+use crate::objects::Objects;
 use crate::read_ahead::ReadAhead;
 use crate::sound_blocks::sound_block;
 use crate::walk::{Loader, ToldObject};
@@ -101,14 +101,14 @@ impl Damages {
 }
 
 impl Loader<'_> {
-    // Walks a tree, and puts its objects into a sink of which none is there, and its pointers into those of no
+    // Walks a tree, and puts its objects among those of which none is there, and its pointers into those of no
     // directories. Answers whether it is whole.
-    pub(crate) fn walk_tree<D: SectorDevice, S: ObjectSink>(
+    pub(crate) fn walk_tree<D: SectorDevice>(
         &self,
         device: &mut D,
         root: &Pointer,
         directories: &mut [Pointer],
-        objects: &mut S,
+        objects: &mut Objects,
         free: &mut FreeSet,
         damages: &mut Damages,
     ) -> Result<bool, PoolError>
@@ -120,7 +120,7 @@ impl Loader<'_> {
         ensures notes { Notes damages.old damages.new result }
         ensures loaded { OnImage D.keeps_model (D.disk device.old) (λ image. IfOk result
             (λ whole. IsTrue whole
-            → LoadsFrom 0 S.stands_for S.entries objects.old objects.new free.old free.new
+            → LoadsFrom 0 objects.old objects.new free.old free.new
             (λ _ after _. IsLoadedTree D.keeps_model image self.now.frame.now
             root.now directories.new after))) }
         ensures found { IsTrue D.keeps_model → (image : List ℕ)
@@ -142,11 +142,11 @@ impl Loader<'_> {
     }
 
     // Walks the directories that these pointers name.
-    fn walk_directories<D: SectorDevice, S: ObjectSink>(
+    fn walk_directories<D: SectorDevice>(
         &self,
         device: &mut D,
         directories: &[Pointer],
-        objects: &mut S,
+        objects: &mut Objects,
         free: &mut FreeSet,
         damages: &mut Damages,
     ) -> Result<bool, PoolError>
@@ -157,7 +157,7 @@ impl Loader<'_> {
         ensures notes { Notes damages.old damages.new result }
         ensures loaded { OnImage D.keeps_model (D.disk device.old) (λ image. IfOk result
             (λ whole. IsTrue whole
-            → LoadsFrom 0 S.stands_for S.entries objects.old objects.new free.old free.new
+            → LoadsFrom 0 objects.old objects.new free.old free.new
             (λ _ after _. AreLoadedDirectories D.keeps_model image self.now.frame.now
             directories.now pointer_count after))) }
         ensures found { OnWalk D.keeps_model (D.disk device.old) (λ image top.
@@ -178,12 +178,12 @@ impl Loader<'_> {
     }
 
     // Walks the directory of this number.
-    fn walk_directory<D: SectorDevice, S: ObjectSink>(
+    fn walk_directory<D: SectorDevice>(
         &self,
         device: &mut D,
         directory: usize,
         pointer: &Pointer,
-        objects: &mut S,
+        objects: &mut Objects,
         free: &mut FreeSet,
         damages: &mut Damages,
     ) -> Result<bool, PoolError>
@@ -194,7 +194,7 @@ impl Loader<'_> {
         ensures notes { Notes damages.old damages.new result }
         ensures loaded { OnImage D.keeps_model (D.disk device.old) (λ image. IfOk result
             (λ whole. IsTrue whole
-            → LoadsFrom (entry_count * directory) S.stands_for S.entries objects.old objects.new free.old free.new
+            → LoadsFrom (entry_count * directory) objects.old objects.new free.old free.new
             (LoadsDirectory D.keeps_model image self.now.frame.now directory pointer.now))) }
         ensures found { OnWalk D.keeps_model (D.disk device.old) (λ image top.
             pointer_of image top (Directory directory) ≡ pointer.now → pointer.now ≢ no_pointer
@@ -212,12 +212,12 @@ impl Loader<'_> {
     }
 
     // Walks the objects that the entries of a directory name.
-    fn walk_entries<D: SectorDevice, S: ObjectSink>(
+    fn walk_entries<D: SectorDevice>(
         &self,
         device: &mut D,
         directory: usize,
         payload: &[u8],
-        objects: &mut S,
+        objects: &mut Objects,
         free: &mut FreeSet,
         damages: &mut Damages,
     ) -> Result<bool, PoolError>
@@ -229,7 +229,7 @@ impl Loader<'_> {
         ensures notes { Notes damages.old damages.new result }
         ensures loaded { OnImage D.keeps_model (D.disk device.old) (λ image. IfOk result
             (λ whole. IsTrue whole
-            → LoadsFrom (entry_count * directory) S.stands_for S.entries objects.old objects.new free.old free.new
+            → LoadsFrom (entry_count * directory) objects.old objects.new free.old free.new
             (AreLoadedEntries D.keeps_model image self.now.frame.now
             directory payload.now entry_count))) }
         ensures found { OnWalk D.keeps_model (D.disk device.old) (λ image top.

@@ -7,8 +7,7 @@
 //! than twenty blocks in memory: those of the root, a directory, a top and an indirect block, and copies of four
 //! records, which are read ahead.
 
-ghost use Rattle.std.specs.Prelude.{◌≡◌, ℕ, ◌≤◌, [], List, IfOk, IfErr, IsTrue, false, true, vec_len};
-ghost use Rattle.base.specs.formats.Limits.{object_count};
+ghost use Rattle.std.specs.Prelude.{◌≡◌, ℕ, ◌≤◌, [], List, IfOk, IfErr, IsTrue, false, true};
 ghost use Rattle.base.specs.disk.Disk.{bytes_of};
 ghost use Rattle.base.specs.formats.Geometry.{block_address};
 ghost use Rattle.base.specs.tree.Damages.{IsFirstDamage};
@@ -20,30 +19,18 @@ ghost use Rattle.trees.specs.FreeBlocks.{AreUnnamed};
 ghost use Rattle.object_maps.specs.BlockReads.{IsLoadRefusal};
 ghost use Rattle.base.specs.declared.pointer.Pointer.{Pointer};
 ghost use Rattle.trees.specs.DamageLists.{IsListRefusal, ListsDamages};
-ghost use Rattle.trees.specs.Surveys.{HasLimitedObjects, HasObjects, IsExamined, damages_of};
+ghost use Rattle.trees.specs.Examined.{HasLimitedObjects, IsExamined, damages_of};
 
 use crate::damages::Examined;
-use crate::objects::{Entries, Objects};
+use crate::objects::{Loaded, Objects};
 use crate::one_walk::Damages;
 use base::{POINTER_COUNT, Pointer, PoolError, Told};
 use checked_blocks::Frame;
-use contents::{BytesView, Slot};
+use contents::BytesView;
 use device_model::SectorDevice;
 use space::FreeSet;
 use std::alloc::Global;
-use tree_blocks::{StripsView, Tree};
-
-/// What a load of a tree gives: a slot for each object number, the pointers, and the blocks that the tree leaves free.
-#[derive(Drop)]
-pub struct Loaded {
-    /// The slot of each object, by the object's number.
-    pub slots: Vec<Slot>,
-    /// The pointers of the tree down to what its directories name, and the lengths of its objects.
-    pub tree: Tree,
-    /// The blocks that no pointer of the tree names.
-    pub free: FreeSet,
-    ghost all_slots: { vec_len slots ≡ object_count },
-}
+use tree_blocks::StripsView;
 
 // What a load is made with: memory, and the frame of the blocks that it reads.
 #[derive(Clone, Copy)]
@@ -87,66 +74,14 @@ pub fn load<D: SectorDevice>(
         (kind address : ℕ) → e ≡ PoolError.Damaged kind address
         → IsFirstDamage (bytes_of (D.disk device.old).now) frame.now root kind address) }
 {
-    let loader = Loader { alloc, frame };
-    let mut objects = Objects::new(alloc)?;
-    let mut free = FreeSet::new(alloc, frame.blocks() as usize)?;
-    let mut directories = vec![in alloc; Pointer::NONE; POINTER_COUNT]?;
-    let mut damages = Damages::first(alloc);
-    loader.walk_tree(
-        device,
-        &root,
-        &mut directories,
-        &mut objects,
-        &mut free,
-        &mut damages,
-    )?;
-    let Objects { slots, entries } = objects;
-    let (tree, free) = entries.into_tree(root, directories, free);
-    Ok(Loaded { slots, tree, free })
-}
-
-/// Walks the tree under a root pointer as `load` does, with the same reads and refusals. It gives the tree's pointers
-/// down to what its directories name, the lengths of its objects, and the blocks that it leaves free. No object's bytes
-/// are told.
-///
-/// # Errors
-/// As `load`: `Damaged` with the first damage in the order of the walk, `Read` if the device refuses a read,
-/// `NoMemory`.
-pub fn survey<D: SectorDevice>(
-    alloc: Global,
-    device: &mut D,
-    frame: &Frame,
-    root: Pointer,
-) -> Result<(Tree, FreeSet), PoolError>
-    requires fits { block_address frame.now.blocks ≤ D.size device.old }
-    ensures reads { OnlyReads D.SectorDevice result device.old device.new }
-    ensures cause { IfErr result IsLoadRefusal }
-
-    // The tree has the root and pointers to blocks of the area alone.
-    ensures root { IfOk result (λ t. t.0.root ≡ root) }
-    ensures placed { IfOk result (λ t. ArePlaced (frame.now.blocks) (pointers_of t.0)) }
-
-    // The blocks that no pointer of it names are free.
-    ensures free { IfOk result (λ t. AreUnnamed frame.now.blocks t.0 t.1) }
-
-    // There are objects whose lengths it has, and with which the image holds it.
-    ensures objects { IfOk result (λ t.
-        HasObjects D.keeps_model (bytes_of (D.disk device.old).now) frame.now t.0) }
-
-    // And the block that is reported as damaged is the first damage of the walk.
-    ensures damage { IsTrue D.keeps_model → IfErr result (λ e.
-        (kind address : ℕ) → e ≡ PoolError.Damaged kind address
-        → IsFirstDamage (bytes_of (D.disk device.old).now) frame.now root kind address) }
-{
-    match walk_lengths(alloc, device, frame, root, Damages::first(alloc))? {
-        Examined::Whole { tree, free } => Ok((tree, free)),
+    match walk_through(alloc, device, frame, root, Damages::first(alloc))? {
+        Examined::Whole(loaded) => Ok(loaded),
         Examined::Damaged(_) => unreachable!(),
     }
 }
 
-// Walks the tree under a root pointer, and is told no object's bytes. It ends at the first damage, or goes on after
-// each, as `damages` says.
-pub(crate) fn walk_lengths<D: SectorDevice>(
+// Walks the tree under a root pointer: it ends at the first damage, or goes on after each, as `damages` says.
+pub(crate) fn walk_through<D: SectorDevice>(
     alloc: Global,
     device: &mut D,
     frame: &Frame,
@@ -168,22 +103,21 @@ pub(crate) fn walk_lengths<D: SectorDevice>(
         → IsFirstDamage (bytes_of (D.disk device.old).now) frame.now root kind address) }
 {
     let loader = Loader { alloc, frame };
-    let mut entries = Entries::new(alloc)?;
+    let mut objects = Objects::new(alloc)?;
     let mut free = FreeSet::new(alloc, frame.blocks() as usize)?;
     let mut directories = vec![in alloc; Pointer::NONE; POINTER_COUNT]?;
     let whole = loader.walk_tree(
         device,
         &root,
         &mut directories,
-        &mut entries,
+        &mut objects,
         &mut free,
         &mut damages,
     )?;
     if !whole {
         return Ok(Examined::Damaged(damages.list));
     }
-    let (tree, free) = entries.into_tree(root, directories, free);
-    Ok(Examined::Whole { tree, free })
+    Ok(Examined::Whole(objects.into_loaded(root, directories, free)))
 }
 
 // What is told of an object while it is loaded: its bytes, and its strips.

@@ -3,17 +3,27 @@ use Rattle.std.proofs.lemmas.Result.{IfErr-weaker}
 use Rattle.base.specs.disk.Disk.{bytes_of}
 use Rattle.base.specs.formats.Geometry.{IsGeometry}
 use Rattle.import_replay.proofs.Reasons.{passed_on}
-use Rattle.inspections.specs.SurveyedPools.{IsExaminedFor}
-use Rattle.inspections.specs.declared.surveying.ExaminedPool.{ExaminedPool}
+use Rattle.inspections.specs.ReadForInspection.{IsExaminedFor}
+use Rattle.inspections.specs.declared.damages.ExaminedPool.{ExaminedPool}
 use Rattle.inspections.proofs.PoolDamages.{find_walk}
 use Rattle.inspections.proofs.Refused.{memory_refused, size_refused, walk_refused}
 use Rattle.inspections.proofs.damages.find_damages.Goals as goal
 
+pub judge_log-requires-clause-loaded : goal.judge_log-requires-clause-loaded
+judge_log-requires-clause-loaded g c =
+    let image : List ℕ = bytes_of (g.D.SectorDevice.disk c.args.device.now).now in
+    (subst (λ (e : ExaminedPool). IsExaminedFor g.D.SectorDevice.keeps_model image c.in_ok-geometry.geometry e) c.in-Whole.is c.in_ok-examined.ensures.examined).loaded
+
+pub judge_log-requires-clause-free : goal.judge_log-requires-clause-free
+judge_log-requires-clause-free g c =
+    let image : List ℕ = bytes_of (g.D.SectorDevice.disk c.args.device.now).now in
+    (subst (λ (e : ExaminedPool). IsExaminedFor g.D.SectorDevice.keeps_model image c.in_ok-geometry.geometry e) c.in-Whole.is c.in_ok-examined.ensures.examined).free
+
 pub returns-in-Whole-clause-found : goal.returns-in-Whole-clause-found
 returns-in-Whole-clause-found g c = λ keeps.
     let image : List ℕ = bytes_of (g.D.SectorDevice.disk c.args.device.now).now in
-    c.judge_log.ensures.found g.D.SectorDevice.keeps_model image keeps
-    (subst (λ (e : ExaminedPool). IsExaminedFor g.D.SectorDevice.keeps_model image c.in_ok-geometry.geometry e) c.in-Whole.is c.in_ok-examined.ensures.examined)
+    c.judge_log.ensures.found image
+    ((subst (λ (e : ExaminedPool). IsExaminedFor g.D.SectorDevice.keeps_model image c.in_ok-geometry.geometry e) c.in-Whole.is c.in_ok-examined.ensures.examined).pool keeps)
 
 pub returns-in-Whole-clause-refused : goal.returns-in-Whole-clause-refused
 returns-in-Whole-clause-refused g c =

@@ -8,9 +8,9 @@ use Rattle.inspections.proofs.PoolDamages.{log_damage}
 use Rattle.inspections.proofs.damages.judge_log.Goals as goal
 
 pub returns-in_ok-push-in-Err-Damaged-clause-found : goal.returns-in_ok-push-in-Err-Damaged-clause-found
-returns-in_ok-push-in-Err-Damaged-clause-found c = λ keeps_model image keeps surveyed.
+returns-in_ok-push-in-Err-Damaged-clause-found c = λ image read.
     let arm = c.in-Err-Damaged in
     let damage : BlockDamage = record { kind = arm.kind; address = arm.address } in
     log_damage image arm.kind arm.address c.push.new.self.items (subst IsReplayCause arm.field-0-is arm.ensures.cause)
-    (subst (λ (e : PoolError). (a : ℕ) → e ≡ Damaged 6 a → IsChainDamaged image a) arm.field-0-is (arm.ensures.damaged keeps_model image keeps surveyed))
+    (subst (λ (e : PoolError). (a : ℕ) → e ≡ Damaged 6 a → IsChainDamaged image a) arm.field-0-is (arm.ensures.damaged image read))
     (c.in_ok-push-in-Err-Damaged.ensures.items ∙ ap (λ (l : List BlockDamage). l ++ damage ∷ []) c.new-damages.ensures.items)

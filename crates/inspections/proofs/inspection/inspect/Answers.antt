@@ -9,12 +9,12 @@ use Rattle.inspections.proofs.inspection.inspect.Goals as goal
 pub returns-clause-mounted : goal.returns-clause-mounted
 returns-clause-mounted g c = λ keeps.
     let image : List ℕ = bytes_of (g.D.SectorDevice.disk c.args.device.now).now in
-    IfOk-weaker c.report.result _ _ (λ i both. both.0) (c.report.ensures.mounted g.D.SectorDevice.keeps_model image keeps c.in_ok-surveyed.ensures.surveyed)
+    IfOk-weaker c.report.result _ _ (λ i both. both.0) (c.report.ensures.mounted image (c.in_ok-found.ensures.pool keeps))
 
 pub returns-clause-agrees : goal.returns-clause-agrees
 returns-clause-agrees g c = λ keeps.
     let image : List ℕ = bytes_of (g.D.SectorDevice.disk c.args.device.now).now in
-    IfOk-weaker c.report.result _ _ (λ i both. both.1) (c.report.ensures.mounted g.D.SectorDevice.keeps_model image keeps c.in_ok-surveyed.ensures.surveyed)
+    IfOk-weaker c.report.result _ _ (λ i both. both.1) (c.report.ensures.mounted image (c.in_ok-found.ensures.pool keeps))
 
 pub returns-in_err-geometry-clause-refused : goal.returns-in_err-geometry-clause-refused
 returns-in_err-geometry-clause-refused g c =
@@ -23,15 +23,15 @@ returns-in_err-geometry-clause-refused g c =
     passed_on c.from_residual.result x _ c.from_residual.ensures.1
     (size_refused g.D.SectorDevice c.args.device.now x is (λ sized. let no : false ≡ true = c.in_err-geometry.ensures.ok.1 (subst IsGeometry (sym c.sectors.ensures.size) sized) in cc))
 
-pub returns-in_err-surveyed-clause-refused : goal.returns-in_err-surveyed-clause-refused
-returns-in_err-surveyed-clause-refused g c =
-    let x = c.in_err-surveyed.field-0.0 in
+pub returns-in_err-found-clause-refused : goal.returns-in_err-found-clause-refused
+returns-in_err-found-clause-refused g c =
+    let x = c.in_err-found.field-0.0 in
     let sized : IsGeometry (g.D.SectorDevice.size c.args.device.now) = subst IsGeometry c.sectors.ensures.size (c.in_ok-geometry.ensures.ok.0 refl) in
-    passed_on c.from_residual-in_err-surveyed.result x _ c.from_residual-in_err-surveyed.ensures.1
-    (walk_refused g.D.SectorDevice c.args.device.now _ x sized c.in_err-surveyed.ensures.refused c.in_err-surveyed.ensures.reason)
+    passed_on c.from_residual-in_err-found.result x _ c.from_residual-in_err-found.ensures.1
+    (walk_refused g.D.SectorDevice c.args.device.now _ x sized c.in_err-found.ensures.refused c.in_err-found.ensures.reason)
 
 pub returns-clause-refused : goal.returns-clause-refused
 returns-clause-refused g c =
     let image : List ℕ = bytes_of (g.D.SectorDevice.disk c.args.device.now).now in
     let sized : IsGeometry (g.D.SectorDevice.size c.args.device.now) = subst IsGeometry c.sectors.ensures.size (c.in_ok-geometry.ensures.ok.0 refl) in
-    records_refused g.D.SectorDevice c.args.device.now _ c.report.result sized c.report.ensures.cause (λ keeps. c.report.ensures.damaged g.D.SectorDevice.keeps_model image keeps c.in_ok-surveyed.ensures.surveyed)
+    records_refused g.D.SectorDevice c.args.device.now _ c.report.result sized c.report.ensures.cause (λ keeps. c.report.ensures.damaged image (c.in_ok-found.ensures.pool keeps))

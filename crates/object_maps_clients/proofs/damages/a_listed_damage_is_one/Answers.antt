@@ -1,7 +1,7 @@
 use Rattle.std.proofs.Common.{ℕ, List}
 use Rattle.std.proofs.lemmas.Result.{IfOk-weaker}
 use Rattle.base.specs.disk.Disk.{bytes_of}
-use Rattle.trees.specs.Surveys.{damages_of}
+use Rattle.trees.specs.Examined.{damages_of}
 use Rattle.trees.proofs.DamageLists.{listed_damaged}
 use Rattle.object_maps_clients.proofs.damages.a_listed_damage_is_one.Goals as goal
 

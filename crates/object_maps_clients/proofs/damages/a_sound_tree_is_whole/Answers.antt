@@ -6,7 +6,7 @@ use Rattle.base.specs.formats.Blocks.{Frame}
 use Rattle.base.specs.tree.Damages.{IsSoundAt}
 use Rattle.base.specs.tree.Places.{IsPlace, Place}
 use Rattle.trees.specs.DamageLists.{ListsDamages, block_damage}
-use Rattle.trees.specs.Surveys.{IsExamined, damages_of}
+use Rattle.trees.specs.Examined.{IsExamined, damages_of}
 use Rattle.trees.specs.declared.damages.BlockDamage.{BlockDamage}
 use Rattle.trees.specs.declared.damages.Examined.{Examined}
 use Rattle.object_maps_clients.proofs.damages.a_sound_tree_is_whole.Goals as goal

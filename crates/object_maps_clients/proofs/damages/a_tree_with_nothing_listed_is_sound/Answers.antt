@@ -1,7 +1,7 @@
 use Rattle.std.proofs.Common.{ℕ, List}
 use Rattle.std.proofs.lemmas.Result.{IfOk-weaker}
 use Rattle.base.specs.disk.Disk.{bytes_of}
-use Rattle.trees.specs.Surveys.{damages_of}
+use Rattle.trees.specs.Examined.{damages_of}
 use Rattle.trees.proofs.DamageLists.{none_listed}
 use Rattle.object_maps_clients.proofs.damages.a_tree_with_nothing_listed_is_sound.Goals as goal
 

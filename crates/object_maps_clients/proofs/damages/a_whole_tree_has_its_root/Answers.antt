@@ -2,14 +2,13 @@ use Rattle.std.proofs.Common.{subst}
 use Rattle.std.specs.Prelude.{Ok, Result}
 use Rattle.base.specs.declared.error.PoolError.{PoolError}
 use Rattle.base.specs.disk.Disk.{bytes_of}
-use Rattle.space.specs.FreeSets.{FreeSpace}
-use Rattle.tree_blocks.specs.declared.tree.Tree.{Tree}
-use Rattle.trees.specs.Surveys.{IsExamined}
+use Rattle.trees.specs.Examined.{IsExamined}
 use Rattle.trees.specs.declared.damages.Examined.{Examined}
+use Rattle.trees.specs.declared.objects.Loaded.{Loaded}
 use Rattle.trees.proofs.FreeBlocks.{IfOk_root}
 use Rattle.object_maps_clients.proofs.damages.a_whole_tree_has_its_root.Goals as goal
 
 pub returns-in-Whole : goal.returns-in-Whole
 returns-in-Whole g c = let is = subst (λ (e : Examined). IsExamined g.D.SectorDevice.keeps_model (bytes_of (g.D.SectorDevice.disk c.args.device.now).now) c.args.frame.now c.args.root e) c.in-Whole.is c.in_ok-examined.ensures.examined in
-    let whole : Result (Tree × FreeSpace) PoolError = Ok (c.in-Whole.tree, c.in-Whole.free) in
-    IfOk_root whole (λ t. t.0) (λ t. t.1) c.args.frame.now.blocks c.args.root c.requires.area c.requires.root is.root_is is.unnamed
+    let whole : Result Loaded PoolError = Ok c.in-Whole.loaded in
+    IfOk_root whole (λ l. l.tree) (λ l. l.free) c.args.frame.now.blocks c.args.root c.requires.area c.requires.root is.root_is is.unnamed

@@ -1,7 +1,7 @@
 use Rattle.std.proofs.Common.{ℕ, List}
 use Rattle.std.proofs.lemmas.Result.{IfOk-weaker}
 use Rattle.base.specs.disk.Disk.{bytes_of}
-use Rattle.trees.specs.Surveys.{damages_of}
+use Rattle.trees.specs.Examined.{damages_of}
 use Rattle.trees.proofs.DamageLists.{first_listed}
 use Rattle.object_maps_clients.proofs.damages.the_first_damage_is_listed_first.Goals as goal
 

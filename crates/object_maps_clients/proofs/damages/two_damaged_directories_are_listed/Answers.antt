@@ -4,7 +4,7 @@ use Rattle.base.specs.disk.Disk.{bytes_of}
 use Rattle.base.specs.tree.Damages.{IsSoundAt}
 use Rattle.base.specs.tree.Places.{Place}
 use Rattle.base.specs.tree.Places.Place.{Directory}
-use Rattle.trees.specs.Surveys.{damages_of}
+use Rattle.trees.specs.Examined.{damages_of}
 use Rattle.trees.proofs.DamageLists.{above_directory, damaged_listed}
 use Rattle.object_maps_clients.proofs.damages.two_damaged_directories_are_listed.Goals as goal
 

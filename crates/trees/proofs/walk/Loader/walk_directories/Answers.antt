@@ -25,7 +25,7 @@ loop-index-init g c = record {
     before,
     stood,
     (λ blocks marked. marked),
-    no_directories g.D.SectorDevice.keeps_model image c.args.self.now.frame.now c.args.directories.now before (g.S.ObjectSink.entries c.args.objects.now) empty,
+    no_directories g.D.SectorDevice.keeps_model image c.args.self.now.frame.now c.args.directories.now before c.args.objects.now.entries.items empty,
   );
 }
 
@@ -50,7 +50,7 @@ loop-index-preserved-then-is_none g c =
             stands,
             marks,
             directories_skip g.D.SectorDevice.keeps_model image c.args.self.now.frame.now c.args.directories.now d
-                after (g.S.ObjectSink.entries c.loop-index.objects) so_far _ within (c.if-is_none.ensures.0 refl),
+                after c.loop-index.objects.entries.items so_far _ within (c.if-is_none.ensures.0 refl),
           );
     }
 
@@ -80,7 +80,7 @@ loop-index-preserved g c =
             stands,
             (λ blocks marked. more_marks blocks (marks blocks marked)),
             directories_load g.D.SectorDevice.keeps_model image c.args.self.now.frame.now c.args.directories.now c.loop-index.index
-                so_many after (g.S.ObjectSink.entries c.loop-index.objects) (g.S.ObjectSink.entries c.walk_directory.new.objects) so_far _ within here,
+                so_many after c.loop-index.objects.entries.items c.walk_directory.new.objects.entries.items so_far _ within here,
           );
     }
 

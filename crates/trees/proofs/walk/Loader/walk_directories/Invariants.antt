@@ -21,6 +21,6 @@ invariant-loop-index g l = record {
       → AreDirectoriesOf image top l.directories
       → AddsDamages image l.self.frame.now top 1 (directory_index l.index) l.fn.damages.list.items l.damages.list.items;
   loaded : (image : List ℕ) → Shows g.D.SectorDevice.keeps_model (g.D.SectorDevice.disk l.fn.device) image → IsTrue l.whole
-      → LoadsFrom 0 g.S.ObjectSink.stands_for g.S.ObjectSink.entries l.fn.objects l.objects l.fn.free l.free
+      → LoadsFrom 0 l.fn.objects l.objects l.fn.free l.free
       (λ _ after _. AreLoadedDirectories g.D.SectorDevice.keeps_model image l.self.frame.now l.directories l.index after);
 }

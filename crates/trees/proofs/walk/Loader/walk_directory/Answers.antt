@@ -35,8 +35,8 @@ returns-clause-loaded g c = λ image shows.
     let same = still_shows keeps_model (g.D.SectorDevice.disk c.args.device.now) (g.D.SectorDevice.disk c.sound_block.new.device) image read.reads.disk shows in
     let opens = λ (keeps : IsTrue keeps_model). subst (λ (l : List ℕ). OpensAt image frame (Directory c.args.directory) c.args.pointer.now l) (sym c.payload_of-payload.ensures.payload)
     (read.opens image shows keeps) in
-    let old_maps = g.S.ObjectSink.entries c.args.objects.now in
-    let maps = g.S.ObjectSink.entries c.walk_entries.new.objects in
+    let old_maps = c.args.objects.now.entries.items in
+    let maps = c.walk_entries.new.objects.entries.items in
     if_ok_whole c.walk_entries.result
     (λ loads before stood empty.
     let (after, stands, marks, all) = loads before stood empty in

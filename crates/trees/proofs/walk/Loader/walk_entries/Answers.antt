@@ -34,7 +34,7 @@ loop-index-init g c = record {
     before,
     stood,
     (λ blocks marked. marked),
-    no_entries g.D.SectorDevice.keeps_model image c.args.self.now.frame.now c.args.directory c.args.payload.now before (g.S.ObjectSink.entries c.args.objects.now),
+    no_entries g.D.SectorDevice.keeps_model image c.args.self.now.frame.now c.args.directory c.args.payload.now before c.args.objects.now.entries.items,
   );
 }
 
@@ -66,7 +66,7 @@ loop-index-preserved-then-entry-eq0 g c =
             stands,
             marks,
             entries_skip g.D.SectorDevice.keeps_model image frame d c.args.payload.now k
-                before after (g.S.ObjectSink.entries c.args.objects.now) (g.S.ObjectSink.entries c.loop-index.objects) so_far empty absent,
+                before after c.args.objects.now.entries.items c.loop-index.objects.entries.items so_far empty absent,
           );
     }
 
@@ -89,9 +89,9 @@ loop-index-preserved g c =
     let number : ℕ = 63 * d + k in
     let bytes = c.walk_object.new.object.bytes.value in
     let kept : ObjectEntry = kept_entry c.read_entry-entry.result c.walk_object.new.object in
-    let entries : List ObjectEntry = g.S.ObjectSink.entries c.loop-index.objects in
+    let entries : List ObjectEntry = c.loop-index.objects.entries.items in
     let low : number < 5292 = omega (arith, c.requires.in_range, c.loop-index-test.true) in
-    let in_place : number < length entries = omega (arith, low, g.met.S.ObjectSink.sized c.loop-index.objects) in
+    let in_place : number < length entries = omega (arith, low, c.loop-index.objects.entries.ok.0, c.loop-index.objects.all_entries) in
     let there = entry_there frame (entry_in payload k) c.read_entry-entry.result (c.requires.payload.each k c.loop-index-test.true) entry.present entry.length c.if-entry-eq0.false in
     record {
       size = call.reads.size ∙ i.size;
@@ -106,7 +106,7 @@ loop-index-preserved g c =
       loaded = λ image shows whole before stood empty.
           let both = and_parts c.loop-index.whole sound whole in
           let (after, stands, marks, so_far) = i.loaded image shows both.0 before stood empty in
-          let old_entries : List ObjectEntry = g.S.ObjectSink.entries c.args.objects.now in
+          let old_entries : List ObjectEntry = c.args.objects.now.entries.items in
           let none = next_empty g.D.SectorDevice.keeps_model image frame d payload k before after old_entries entries so_far (empty.each number (omega arith)) in
           let put = entries_put g.D.SectorDevice.keeps_model image frame d payload k before after old_entries entries bytes kept so_far in_place
           (call.loaded image (still_shows g.D.SectorDevice.keeps_model (g.D.SectorDevice.disk c.args.device.now) (g.D.SectorDevice.disk c.loop-index.device) image i.disk shows) both.1)

@@ -21,6 +21,6 @@ invariant-loop-index g l = record {
       → IsPayloadOf image l.self.frame.now top l.directory l.payload
       → AddsDamages image l.self.frame.now top (objects_index l.directory) (objects_index l.directory + 7141 * l.index) l.fn.damages.list.items l.damages.list.items;
   loaded : (image : List ℕ) → Shows g.D.SectorDevice.keeps_model (g.D.SectorDevice.disk l.fn.device) image → IsTrue l.whole
-      → LoadsFrom (63 * l.directory) g.S.ObjectSink.stands_for g.S.ObjectSink.entries l.fn.objects l.objects l.fn.free l.free
+      → LoadsFrom (63 * l.directory) l.fn.objects l.objects l.fn.free l.free
       (AreLoadedEntries g.D.SectorDevice.keeps_model image l.self.frame.now l.directory l.payload l.index);
 }

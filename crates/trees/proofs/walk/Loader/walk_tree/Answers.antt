@@ -18,7 +18,7 @@ returns-then-is_none-clause-loaded g c = λ image shows whole before stood empty
   before,
   stood,
   (λ blocks marked. marked),
-  no_tree g.D.SectorDevice.keeps_model image c.args.self.now.frame.now c.args.root.now c.args.directories.now before (g.S.ObjectSink.entries c.args.objects.now)
+  no_tree g.D.SectorDevice.keeps_model image c.args.self.now.frame.now c.args.root.now c.args.directories.now before c.args.objects.now.entries.items
       (c.if-is_none.ensures.0 refl) c.requires.no_directories empty,
 )
 
@@ -50,7 +50,7 @@ returns-clause-loaded g c = λ image shows.
       stands,
       marks,
       tree_loaded keeps_model image frame c.args.root.now c.read_pointers.new.pointers c.payload_of-payload.result.now after
-          (g.S.ObjectSink.entries c.walk_directories.new.objects) read.placed opens c.read_pointers.ensures all,
+          c.walk_directories.new.objects.entries.items read.placed opens c.read_pointers.ensures all,
     ))
     (c.walk_directories.ensures.loaded image same)
 

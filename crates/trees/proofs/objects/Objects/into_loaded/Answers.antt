@@ -3,7 +3,7 @@ use Rattle.std.specs.List.{list_any}
 use Rattle.base.specs.declared.pointer.Pointer.{Pointer}
 use Rattle.trees.specs.FreeBlocks.{BlocksTaken, names_block}
 use Rattle.trees.proofs.FreeBlocks.{tree_left}
-use Rattle.trees.proofs.objects.Entries.into_tree.Goals as goal
+use Rattle.trees.proofs.objects.Objects.into_loaded.Goals as goal
 
 pub returns-clause-free : goal.returns-clause-free
 returns-clause-free c = λ blocks marked.

@@ -3,14 +3,14 @@ use Rattle.std.specs.Prelude.{IsTrue}
 use Rattle.base.specs.tree.Mount.{IsChainOf}
 use Rattle.base.specs.disk.Disk.{Disk, bytes_of}
 use Rattle.trees.specs.DamageLists.{ListsDamages}
-use Rattle.trees.specs.Surveys.{IsExamined, damages_of}
+use Rattle.trees.specs.Examined.{IsExamined, damages_of}
 use Rattle.trees.specs.declared.damages.Examined.{Examined}
 use Rattle.uberblocks.specs.Slots.{fields_of}
 use Rattle.import_replay.specs.ImportRefusals.{IsReason}
 use Rattle.import_replay.proofs.Reasons.{passed_on, reason-chain}
 use Rattle.inspections.proofs.PoolDamages.{has_tree_damages}
-use Rattle.inspections.proofs.SurveyedPools.{is_surveyed}
-use Rattle.inspections.proofs.surveying.examine_pool.Goals as goal
+use Rattle.inspections.proofs.ReadForInspection.{is_read}
+use Rattle.inspections.proofs.damages.examine_pool.Goals as goal
 
 pub returns-in_err-examined-clause-reason : goal.returns-in_err-examined-clause-reason
 returns-in_err-examined-clause-reason g c = λ keeps.
@@ -30,7 +30,7 @@ returns-in_ok-logged-in-Whole-clause-examined g c =
     let image : List ℕ = bytes_of (g.D.SectorDevice.disk c.args.device.now).now in
     let found = c.in_ok-found.found in
     let logged = c.in_ok-logged-in-Whole.logged in
-    is_surveyed keeps_model image (g.D.SectorDevice.disk c.find_pool.new.device) c.args.geometry _ (record { found = found; tree = c.in-Whole.tree; free = c.in-Whole.free; logged = logged })
+    is_read keeps_model image (g.D.SectorDevice.disk c.find_pool.new.device) c.args.geometry _ found c.in-Whole.loaded logged.items
     (λ keeps. g.met.D.SectorDevice.sized keeps c.args.device.now ∙ c.requires.sized.size) (λ keeps. ap (λ (d : Disk). bytes_of d.now) (c.find_pool.ensures.reads.disk keeps))
     c.in_ok-found.ensures.pool c.frame_of-frame.ensures
     (subst (λ (e : Examined). IsExamined keeps_model (bytes_of (g.D.SectorDevice.disk c.find_pool.new.device).now) c.frame_of-frame.result found.uberblock.root e) c.in-Whole.is c.in_ok-examined.ensures.examined)

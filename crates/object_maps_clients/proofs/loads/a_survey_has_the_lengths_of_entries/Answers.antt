@@ -1,8 +1,0 @@
-use Rattle.std.proofs.Common.{◌∙◌, arith}
-use Rattle.object_maps_clients.proofs.HeldTrees.{length-held}
-use Rattle.object_maps_clients.proofs.loads.a_survey_has_the_lengths_of_entries.Goals as goal
-
-pub returns : goal.returns
-returns g c =
-    c.in_ok-tree.ensures.objects.lengths 7 (omega arith)
-    ∙ length-held _ _ _ _ (c.in_ok-tree.ensures.objects.held c.requires.keeps) _ c.in_ok-tree.ensures.root 100 c.requires.there c.requires.present c.requires.length
