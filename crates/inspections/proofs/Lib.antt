@@ -1,7 +1,6 @@
 pub mod Refused
 pub mod ReadForInspection
 pub mod UsedBlocks
-pub mod ChainRecords
 pub mod Inspections
 pub mod PoolDamages
 pub mod Views

@@ -10,10 +10,10 @@ use Rattle.base.proofs.history.Objects.{get-stored_same}
 use Rattle.extents.specs.Patches.{laid_over}
 use Rattle.extents.specs.Synced.{patched_contents}
 use Rattle.extents.specs.Tables.{name_of, patches_of}
-use Rattle.tree_blocks.specs.Lengths.{lengths_of}
-use Rattle.log_replay.specs.declared.outline.Outline.{Outline}
+use Rattle.tree_blocks.specs.Sources.{object_length}
+use Rattle.extents.specs.declared.extents.Extents.{Extents}
 use Rattle.log_replay.specs.declared.replaying.Replayed.{Replayed}
-use Rattle.log_replay.specs.Outlines.{IsOutlineOf, ReplaysOutline}
+use Rattle.log_replay.specs.AddedRecords.{AreChangesOf, with_changes}
 use Rattle.log_replay.specs.Replays.{IsRecordRefused, IsReplay, IsReplayRefusal}
 use Rattle.log_replay.specs.SmallChains.{creation_chain, growing_chain, naming_chain}
 use Rattle.log_replay.proofs.RefusedRecords.{none_reached, refusals_agree}
@@ -38,15 +38,11 @@ module _ (c : Contents) where
     grows : apply_records (records_above 9 (growing_chain 10)) c ≡ Ok grown
     grows = rw (absent, get-stored_same c.objects 7 (Some [])) refl
 
-    pub length_grown : (old new : Outline) (r : Result ℕ PoolError) → IsOutlineOf old c → ReplaysOutline (records_above 9 (growing_chain 10)) old r new → (r ≡ Ok 2) × (lengths_of new.tree 7 ≡ Some 8)
-    length_grown old new (Ok n) is made =
-        let (d, reached, later) = made.1 c is in
-        let same : grown ≡ d = Ok-same _ _ (sym grows ∙ reached) in (
-          ap Ok made.0,
-          later.lengths 7 (omega arith) ∙ ap (λ (x : Contents). option_map length (finite.get x.objects 7)) (sym same)
-              ∙ ap (option_map length) (get-stored_same (with_object c 7 (Some [])).objects 7 (Some (0 ∷ 0 ∷ 0 ∷ 1 ∷ 2 ∷ 3 ∷ 4 ∷ 5 ∷ []))),
-        )
-    length_grown old new (Err e) is (address, damaged, refused) = absurd (none_reached (records_above 9 (growing_chain 10)) c grown address (refused c is) grows)
+    pub length_grown : (r : Extents × ℕ) → AreChangesOf (records_above 9 (growing_chain 10)) c r → object_length (laid_over (patches_of r.0) c.objects) 7 ≡ Some 8
+    length_grown r made =
+        let same : grown ≡ with_changes r.0 c = Ok-same _ _ (sym grows ∙ made.1) in
+        ap (λ (x : Contents). option_map length (finite.get x.objects 7)) (sym same)
+        ∙ ap (option_map length) (get-stored_same (with_object c 7 (Some [])).objects 7 (Some (0 ∷ 0 ∷ 0 ∷ 1 ∷ 2 ∷ 3 ∷ 4 ∷ 5 ∷ [])))
 
   -- the pool is named
   pub pool_named : (r : Replayed) → IsReplay 9 c (naming_chain 10) r → unwrap_or (name_of r.extents) c.name ≡ 112 ∷ 111 ∷ 110 ∷ 100 ∷ []
@@ -75,9 +71,5 @@ module _ (c : Contents) where
     creation_reported e (inr (address, damaged, refused)) =
         inr (damaged ∙ ap (Damaged 6) ((refusals_agree (records_above 9 (creation_chain 10)) c 4194304 creation_refused).1 address refused))
 
-    pub creation_damaged : (old new : Outline) (r : Result ℕ PoolError) → IsOutlineOf old c → ReplaysOutline (records_above 9 (creation_chain 10)) old r new → r ≡ Err (Damaged 6 4194304)
-    creation_damaged old new (Ok n) is made =
-        let (d, reached, later) = made.1 c is in
-        absurd (none_reached (records_above 9 (creation_chain 10)) c d 4194304 creation_refused reached)
-    creation_damaged old new (Err e) is (address, damaged, refused) =
-        ap Err (damaged ∙ ap (Damaged 6) ((refusals_agree (records_above 9 (creation_chain 10)) c 4194304 creation_refused).1 address (refused c is)))
+    pub not_created : (r : Extents × ℕ) → AreChangesOf (records_above 9 (creation_chain 10)) c r → ⊥
+    not_created r made = none_reached (records_above 9 (creation_chain 10)) c (with_changes r.0 c) 4194304 creation_refused made.1

@@ -2,8 +2,7 @@ pub mod AppliedRecords
 pub mod BoundedReplays
 pub mod Callers
 pub mod ChainWalks
-pub mod OutlineRecords
-pub mod OutlineSteps
+pub mod AddedRecords
 pub mod RefusedRecords
 pub mod ReplayedRecords
 pub mod WalkedRecords

@@ -1,6 +1,6 @@
 pub mod Judged
 pub mod Laws
-pub mod Outlines
 pub mod Replays
+pub mod AddedRecords
 pub mod SmallChains
 pub mod Walked

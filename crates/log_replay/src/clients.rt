@@ -1,22 +1,21 @@
 //! What callers rest on: one function for each promise of this crate's calls, proved from the contract of the call
 //! alone. So it is refused as soon as that contract says less.
 
-ghost use Rattle.std.specs.Prelude.{◌≡◌, ◌⊎◌, ◌∷◌, [], IfErr, IfOk, Err, IsErr, None, Ok, Some, map, unwrap_or};
+ghost use Rattle.std.specs.Prelude.{◌≡◌, ◌⊎◌, ◌∷◌, [], IfErr, IfOk, IsErr, None, Some, map, unwrap_or};
 ghost use Rattle.std.specs.FinMap as finite;
-ghost use Rattle.base.specs.history.Contents as history;
 ghost use Rattle.extents.specs.Patches.{laid_over};
 ghost use Rattle.extents.specs.Tables.{name_of, patches_of};
 ghost use Rattle.contents.specs.ContentsShown.{contents_of};
-ghost use Rattle.tree_blocks.specs.Lengths.{lengths_of};
+ghost use Rattle.tree_blocks.specs.Sources.{object_length};
 ghost use Rattle.records.specs.Records.{record_fields};
 ghost use Rattle.log_replay.specs.SmallChains.{creation, creation_chain, growing_chain, naming_chain};
-ghost use Rattle.log_replay.specs.Outlines.{IsOutlineOf};
 ghost use Rattle.log_replay.specs.Replays.{IsChainAllowed};
 
-use crate::outline::Outline;
+use crate::changes::changes_of;
 use crate::replaying::{Replayed, replay};
 use base::{Group, PoolError};
 use contents::Contents;
+use extents::Extents;
 use intent_log::LoggedPiece;
 use std::alloc::Global;
 
@@ -95,30 +94,34 @@ fn a_record_that_is_refused_is_a_damage_of_its_piece(
     replay(alloc, Group(9), contents, pieces)
 }
 
-// It is refused so whatever the bytes of the object are.
-fn a_record_is_refused_by_lengths_alone(
-    outline: &mut Outline,
+// It is refused so if nothing but the changes is asked for.
+fn a_record_that_is_refused_changes_nothing(
+    alloc: Global,
+    contents: &Contents,
     pieces: &[LoggedPiece],
-) -> Result<u64, PoolError>
+) -> Result<(Extents, u64), PoolError>
     requires chain { pieces.now ≡ creation_chain 10 }
     requires allowed { IsChainAllowed pieces.now }
-    ensures { (contents : history.Contents) → IsOutlineOf outline.old contents
-        → finite.get contents.objects 7 ≡ Some []
-        → result ≡ Err (PoolError.Damaged 6 4194304) }
+    requires there { finite.get (contents_of contents.now).objects 7 ≡ Some [] }
+    ensures refused { IsErr result }
+    ensures address { IfErr result
+        (λ e. (e ≡ PoolError.NoMemory) ⊎ (e ≡ PoolError.Damaged 6 4194304)) }
 {
-    outline.replay(Group(9), pieces)
+    changes_of(alloc, Group(9), contents, pieces)
 }
 
 // Object 7 is created by one record, and the next one writes 5 bytes at 3.
 fn lengths_follow_the_records(
-    outline: &mut Outline,
+    alloc: Global,
+    contents: &Contents,
     pieces: &[LoggedPiece],
-) -> Result<u64, PoolError>
+) -> Result<(Extents, u64), PoolError>
     requires chain { pieces.now ≡ growing_chain 10 }
     requires allowed { IsChainAllowed pieces.now }
-    ensures { (contents : history.Contents) → IsOutlineOf outline.old contents
-        → finite.get contents.objects 7 ≡ None
-        → (result ≡ Ok 2) × (lengths_of outline.new.tree 7 ≡ Some 8) }
+    requires absent { finite.get (contents_of contents.now).objects 7 ≡ None }
+    ensures count { IfOk result (λ r. r.1 ≡ 2) }
+    ensures length { IfOk result (λ r. object_length
+        (laid_over (patches_of r.0) (contents_of contents.now).objects) 7 ≡ Some 8) }
 {
-    outline.replay(Group(9), pieces)
+    changes_of(alloc, Group(9), contents, pieces)
 }

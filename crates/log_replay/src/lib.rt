@@ -7,12 +7,12 @@
 //! 3. What was applied is then synced as the operations of one group, four after the active one.
 #![tactic(auto)]
 
+mod changes;
 mod clients;
 mod judging;
 mod laws;
-mod outline;
 mod replaying;
 
+pub use changes::changes_of;
 pub use laws::{refusals_agree, replays_stay_bounded};
-pub use outline::Outline;
 pub use replaying::{Replayed, replay};

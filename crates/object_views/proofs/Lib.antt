@@ -8,3 +8,4 @@ pub mod AlikeContents
 pub mod Listings
 pub mod TestedBlocks
 pub mod ReadPlaces
+pub mod ChainRecords

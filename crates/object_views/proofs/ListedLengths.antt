@@ -1,28 +1,27 @@
--- The list of objects with their lengths says the length of each object, and there are objects of zeros for each such
--- list.
-use Rattle.std.proofs.Common.{◌≡◌, ◌≢◌, ℕ, zero, suc, ◌+◌, ◌<◌, ◌≤◌, ◌⊎◌, inl, inr, Bool, true, false, ◌&&◌, cond, List, [], ◌∷◌, ◌++◌, length, map, take, drop, get_or, replicate, Option, Some, None, Less, Equal, Greater, nat_eq, refl, ap, sym, subst, ◌∙◌, arith, append-nil, append_assoc}
-use Rattle.std.specs.Prelude.{◌==◌, All, IfSome, T, option_map}
-use Rattle.std.specs.Ordering.{is_lt, nat_cmp}
+-- The list of objects with their lengths says the length of each object.
+use Rattle.std.proofs.Common.{◌≡◌, ◌≢◌, ℕ, zero, suc, ◌+◌, ◌<◌, ◌≤◌, ◌⊎◌, inl, inr, Bool, true, false, cond, List, [], ◌∷◌, ◌++◌, length, map, take, drop, get_or, replicate, Option, Some, None, refl, ap, sym, subst, ◌∙◌, arith, append-nil, append_assoc}
+use Rattle.std.specs.Prelude.{◌==◌, IfSome, option_map}
+use Rattle.std.specs.Ordering.{nat_cmp}
 use Rattle.std.specs.Cmp.{unsigned_tied}
 use Rattle.std.specs.FinMap as finite
-use Rattle.std.specs.FinMap.{FinMap, entries-from_sorted, find, get-empty, get-entries, get-from_sorted, is_sorted}
-use Rattle.std.specs.FinMap.Entries.{below_all}
-use Rattle.std.proofs.lemmas.Bool.{cases_Bool, cases_eq, eq-eqb, eqb-true, lt-ltb, ne_eqb}
+use Rattle.std.specs.FinMap.{FinMap, find, get-empty, get-entries}
+use Rattle.std.proofs.Math.ListN.{set}
+use Rattle.std.proofs.lemmas.Bool.{cases_Bool, cases_eq, eq-eqb, eqb-true, ne_eqb}
 use Rattle.std.proofs.lemmas.List.{length-replicate, take_more, take-append-drop}
 use Rattle.base.specs.declared.names.ObjectId.{ObjectId}
 use Rattle.base.specs.formats.Limits.{max_length, object_count}
-use Rattle.tree_blocks.specs.EmptyEntries.{IsEmptyEntry}
-use Rattle.tree_blocks.specs.Lengths.{length_in, lengths_of}
+use Rattle.base.specs.history.Contents.{Contents}
+use Rattle.base.proofs.history.Objects.{get-stored_other, get-stored_same}
+use Rattle.contents.specs.ContentsShown.{contents_of, objects_of}
+use Rattle.contents.specs.declared.contents.Contents as declared
+use Rattle.contents.specs.declared.contents.Slot.{Slot}
 use Rattle.tree_blocks.specs.ListedObjects.{AreWithin, listed}
-use Rattle.tree_blocks.specs.declared.tree.ObjectEntry.{ObjectEntry}
-use Rattle.tree_blocks.specs.declared.tree.Tree.{Tree}
+use Rattle.tree_blocks.specs.Sources.{object_length}
 use Rattle.tree_blocks.proofs.ListedObjects.{listed_at, listed_below, listed_below-all}
 use Rattle.trees.specs.EntryLists.{AreRising}
-use Rattle.trees.specs.Loading.{IsLimitedObject}
 use Rattle.trees.proofs.EntryLists.{rising_more, rising_push}
-use Rattle.trees.proofs.LoadedRecords.{bytes-zeros}
-use Rattle.trees.proofs.LoadedTrees.{no_lengths}
-use Rattle.object_views.specs.Listings.{HasListedLengths, length_among}
+use Rattle.trees.proofs.PutObjects.{objects-set}
+use Rattle.object_views.specs.Listings.{HasListedLengths, length_among, length_at}
 
 -- a list whose numbers rise ends after each of them
 rising_ends : (start end : ℕ) (list : List (ObjectId × ℕ)) → AreRising start list end → start ≤ end
@@ -59,9 +58,22 @@ among-last (x ∷ list) o none = go (cases_Bool (o.0.0 == x.0.0)) (among-last li
     go (inl same) rest = absurd (let none_here : Some x.1 ≡ None = rw same at none in cc)
     go (inr other) rest = rw other (rest (rw other at none))
 
--- new entries have no lengths
-pub none_given : (entries : List ObjectEntry) → All IsEmptyEntry entries → (n : ℕ) → length_in entries n ≡ None
-none_given entries empty n = no_lengths entries empty n ∙ ap (option_map length) (get-empty {X = List ℕ} nat_cmp n)
+-- contents without objects have no lengths
+pub none_given : (c : declared.Contents) (name : List ℕ) → contents_of c ≡ record { name = name; objects = finite.empty } → (n : ℕ) → length_at c n ≡ None
+none_given c name none n = ap (λ (d : Contents). option_map length (finite.get d.objects n)) none ∙ ap (option_map length) (get-empty {X = List ℕ} nat_cmp n)
+
+-- the slot of an object is set to zeros
+module _ (slots : List Slot) (n : ℕ) (s : Slot) (low : n < length slots) (present : s.present ≡ true) where
+  pub length_set : (size : ℕ) → s.bytes.value ≡ replicate size 0 → object_length (objects_of (set slots n s)) n ≡ Some size
+  length_set size zeros =
+      ap (λ (m : FinMap nat_cmp (List ℕ)). object_length m n) (objects-set slots n s low present)
+      ∙ ap (option_map length) (get-stored_same (objects_of slots) n (Some s.bytes.value))
+      ∙ ap (λ (k : ℕ). Some k) (ap (λ (l : List ℕ). length l) zeros ∙ length-replicate size 0)
+
+  pub length_left : (q : ℕ) → q ≢ n → object_length (objects_of (set slots n s)) q ≡ object_length (objects_of slots) q
+  length_left q other =
+      ap (λ (m : FinMap nat_cmp (List ℕ)). object_length m q) (objects-set slots n s low present)
+      ∙ ap (option_map length) (get-stored_other (objects_of slots) n (Some s.bytes.value) q other)
 
 -- one object more, whose length is set
 module _ (objects : List (ObjectId × ℕ)) (i : ℕ) (default : ObjectId × ℕ) (low : i < length objects) where
@@ -82,11 +94,11 @@ module _ (objects : List (ObjectId × ℕ)) (i : ℕ) (default : ObjectId × ℕ
     pub in_range : item.0.0 < object_count
     in_range = below_end object_count item (drop (i + 1) objects) 0 (take i objects) apart
 
-    pub lengths_more : (old new : Tree) → HasListedLengths (take i objects) old → lengths_of new item.0.0 ≡ Some item.1 → ((n : ℕ) → n ≢ item.0.0 → lengths_of new n ≡ lengths_of old n)
+    pub lengths_more : (old new : declared.Contents) → HasListedLengths (take i objects) old → length_at new item.0.0 ≡ Some item.1 → ((n : ℕ) → n ≢ item.0.0 → length_at new n ≡ length_at old n)
         → HasListedLengths (take (i + 1) objects) new
     lengths_more old new before here others n = go (cases_eq n item.0.0) ∙ ap (λ (l : List (ObjectId × ℕ)). length_among l n) (sym front)
       where
-        go : (n ≡ item.0.0) ⊎ (n ≢ item.0.0) → lengths_of new n ≡ length_among (take i objects ++ item ∷ []) n
+        go : (n ≡ item.0.0) ⊎ (n ≢ item.0.0) → length_at new n ≡ length_among (take i objects ++ item ∷ []) n
         go (inl same) = rw same (here ∙ sym (among-last (take i objects) item (not_before object_count item (drop (i + 1) objects) 0 (take i objects) apart)))
         go (inr other) = others n other ∙ before n ∙ sym (among-other (take i objects) item n other)
 
@@ -143,6 +155,10 @@ module _ (objects others : FinMap nat_cmp (List ℕ)) (same : (n : ℕ) → opti
   pub listed-same : listed objects ≡ listed others
   listed-same = sym (listed_below-all objects within) ∙ below-same object_count ∙ listed_below-all others within_too
 
+-- objects of the lengths of a rising list lie within the limits
+pub listed_within : (objects : FinMap nat_cmp (List ℕ)) (entries : List (ObjectId × ℕ)) → AreRising 0 entries object_count → ((n : ℕ) → object_length objects n ≡ length_among entries n) → AreWithin objects
+listed_within objects entries rising has n = of_length n (finite.get objects n) (length_among entries n) (has n) (among_within 0 n entries rising)
+
 -- the list of objects within the limits rises
 pub listed_rises : (objects : FinMap nat_cmp (List ℕ)) → AreWithin objects → AreRising 0 (listed objects) object_count
 unfolding listed_below
@@ -157,57 +173,3 @@ listed_rises objects within = subst (λ (l : List (ObjectId × ℕ)). AreRising 
     below (suc n) =
         subst (λ (k : ℕ). AreRising 0 (listed_below objects n ++ listed_at n (option_map length (finite.get objects n))) k) (let e : n + 1 ≡ suc n = omega arith in e)
         (next n (listed_below objects n) (finite.get objects n) (below n) (within n))
-
--- objects of zeros
-abbrev zeros_of : ObjectId × ℕ → ℕ × List ℕ
-zeros_of o = (o.0.0, replicate o.1 0)
-
-pub objects_of_zeros : List (ObjectId × ℕ) → FinMap nat_cmp (List ℕ)
-objects_of_zeros list = finite.from_sorted (map zeros_of list)
-
-less : (x y : ℕ) → x < y → is_lt (nat_cmp x y) ≡ true
-less x y h = ap (λ (b : Bool). is_lt (cond b Less (cond (nat_eq x y) Equal Greater))) (lt-ltb x y h)
-
-both : (a b : Bool) → a ≡ true → T b → T (a && b)
-both a b e t = rw e t
-
-both_T : (a b : Bool) → T a → T b → T (a && b)
-both_T true b p q = q
-both_T false b p q = absurd p
-
-zeros_above : (q start end : ℕ) (list : List (ObjectId × ℕ)) → q < start → AreRising start list end → T (below_all nat_cmp q (map zeros_of list))
-zeros_above q start end [] low rising = tt
-zeros_above q start end (o ∷ others) low rising = both _ _ (less q o.0.0 (omega (arith, low, rising.0))) (zeros_above q (o.0.0 + 1) end others (omega (arith, low, rising.0)) rising.2)
-
-zeros_sorted : (start end : ℕ) (list : List (ObjectId × ℕ)) → AreRising start list end → T (is_sorted nat_cmp (map zeros_of list))
-zeros_sorted start end [] rising = tt
-zeros_sorted start end (o ∷ others) rising = both_T _ _ (zeros_above o.0.0 (o.0.0 + 1) end others (omega arith) rising.2) (zeros_sorted (o.0.0 + 1) end others rising.2)
-
--- of such a list, which it is again, and within the limits
-module _ (list : List (ObjectId × ℕ)) (rising : AreRising 0 list object_count) where
-  pub listed-zeros : listed (objects_of_zeros list) ≡ list
-  unfolding objects_of_zeros
-  listed-zeros = ap (map line_of) (entries-from_sorted nat_cmp (map zeros_of list) (zeros_sorted 0 object_count list rising)) ∙ lines list
-    where
-      lines : (l : List (ObjectId × ℕ)) → map line_of (map zeros_of l) ≡ l
-      lines [] = refl
-      lines (o ∷ others) =
-          ap (λ (size : ℕ). (record { 0 = o.0.0 }, size) ∷ map line_of (map zeros_of others)) (length-replicate o.1 0) ∙ ap (λ (l : List (ObjectId × ℕ)). o ∷ l) (lines others)
-
-  pub zeros_limited : (n : ℕ) → IfSome (finite.get (objects_of_zeros list) n) (IsLimitedObject n)
-  unfolding objects_of_zeros
-  zeros_limited n =
-      subst (λ (o : Option (List ℕ)). IfSome o (IsLimitedObject n)) (sym (get-from_sorted nat_cmp (map zeros_of list) n (zeros_sorted 0 object_count list rising))) (found 0 list rising)
-    where
-      found : (start : ℕ) (l : List (ObjectId × ℕ)) → AreRising start l object_count → IfSome (find nat_cmp n (map zeros_of l)) (IsLimitedObject n)
-      found start [] up = tt
-      found start (o ∷ others) up =
-          subst (λ (b : Bool). IfSome (cond b (Some (replicate o.1 0)) (find nat_cmp n (map zeros_of others))) (IsLimitedObject n)) (sym (unsigned_tied n o.0.0)) (go (cases_Bool (n == o.0.0)) (found (o.0.0 + 1) others up.2))
-        where
-          go : ((n == o.0.0) ≡ true) ⊎ ((n == o.0.0) ≡ false) → IfSome (find nat_cmp n (map zeros_of others)) (IsLimitedObject n) → IfSome (cond (n == o.0.0) (Some (replicate o.1 0)) (find nat_cmp n (map zeros_of others))) (IsLimitedObject n)
-          go (inl same) rest =
-              let more = rising_ends (o.0.0 + 1) object_count others up.2 in
-              let is = eqb-true n o.0.0 same in
-              let long = length-replicate {A = ℕ} o.1 0 in
-              rw same (omega (arith, more, is), omega (arith, long, up.1), bytes-zeros o.1)
-          go (inr other) rest = rw other rest

@@ -1,6 +1,6 @@
 -- What a list of a pool has is what the image mounts, and why one is refused.
-use Rattle.std.proofs.Common.{◌≡◌, ◌⊎◌, inl, inr, ℕ, zero, suc, ◌<◌, ◌≤◌, arith, List, length, Option, Some, None, Ok, refl, sym, ap, subst, ◌∙◌}
-use Rattle.std.specs.Prelude.{IfSome, IsTrue}
+use Rattle.std.proofs.Common.{◌≡◌, ◌⊎◌, inl, inr, ℕ, zero, suc, ◌<◌, ◌≤◌, arith, List, length, Ok, refl, sym, ap, subst, ◌∙◌}
+use Rattle.std.specs.Prelude.{IsTrue, unwrap_or}
 use Rattle.std.specs.Ordering.{nat_cmp}
 use Rattle.std.specs.FinMap as finite
 use Rattle.std.specs.FinMap.{FinMap}
@@ -11,7 +11,7 @@ use Rattle.base.specs.disk.Disk.{bytes_of}
 use Rattle.base.specs.formats.Blocks.{Frame}
 use Rattle.base.specs.formats.Chain.{LogPiece}
 use Rattle.base.specs.formats.Geometry.{IsGeometry, block_count}
-use Rattle.base.specs.formats.Limits.{max_length, object_count}
+use Rattle.base.specs.formats.Limits.{object_count}
 use Rattle.base.specs.formats.Uberblocks.{Uberblock}
 use Rattle.base.specs.history.Contents.{Contents, length_of}
 use Rattle.base.specs.tree.Damages.{IsSoundAt}
@@ -22,86 +22,61 @@ use Rattle.base.specs.tree.Tree.{IsTree}
 use Rattle.base.proofs.crash.OneMount.{one-active, one-name}
 use Rattle.device_model.specs.declared.device.SectorDevice.{Ghosts}
 use Rattle.object_maps.specs.BlockReads.{IsLoadRefusal}
-use Rattle.log_replay.specs.Outlines.{IsOutlineOf, ReplaysOutline}
-use Rattle.log_replay.specs.Replays.{IsRecordRefused}
-use Rattle.log_replay.specs.declared.outline.Outline.{Outline}
+use Rattle.contents.specs.ContentsShown.{contents_of}
+use Rattle.contents.specs.declared.contents.Contents as declared
+use Rattle.extents.specs.declared.extents.Extents.{Extents}
+use Rattle.extents.specs.Patches.{laid_over}
+use Rattle.extents.specs.Tables.{name_of, patches_of}
+use Rattle.extents.proofs.LaidWithin.{objects_stay_within}
+use Rattle.log_replay.specs.AddedRecords.{AreChangesOf, with_changes}
+use Rattle.log_replay.specs.Replays.{IsRecordRefused, IsReplayRefusal}
 use Rattle.log_replay.proofs.RefusedRecords.{none_reached}
-use Rattle.tree_blocks.specs.ListedObjects.{AreWithin, ListsObjectsOf, listed}
-use Rattle.tree_blocks.specs.declared.tree.Tree.{Tree}
+use Rattle.tree_blocks.specs.ListedObjects.{AreWithin, listed}
 use Rattle.trees.specs.EntryLists.{AreRising, AreSoundAbove, ListsEntries, TellsDirectory, TellsFirstAbove}
-use Rattle.trees.specs.Loading.{IsLimitedObject}
 use Rattle.inspections.specs.PoolDamages.{IsOfNoDamage}
-use Rattle.inspections.proofs.ChainRecords.{counted-above}
+use Rattle.object_views.proofs.ChainRecords.{counted-above}
 use Rattle.object_views.specs.Listings.{HasEntries, HasListedLengths, IsListingOf, IsListingOfMount, IsListingRefused, IsOfLengths, IsRecordDamage, IsRefusedOn, IsReplayedOn, ListsContents, TellsListingDamage, length_among, records_of}
 use Rattle.object_views.specs.PoolPaths.{ArePathsOf, IsFindingRefused, IsPathsRefusal, uberblock_of}
 use Rattle.object_views.specs.declared.listing.ListedPool.{ListedPool}
 use Rattle.object_views.specs.declared.paths.PoolPaths.{PoolPaths}
 use Rattle.object_views.proofs.AlikeContents.{AreAlike, alike_led, alike_refused}
 use Rattle.object_views.proofs.FoundViews.{damage_told, kind_told, not_missing, refused_plainly}
-use Rattle.object_views.proofs.ListedLengths.{among-listed, listed-same, listed-zeros, listed_rises, objects_of_zeros, zeros_limited}
+use Rattle.object_views.proofs.ListedLengths.{among-listed, listed-same, listed_rises, listed_within}
 use Rattle.object_views.proofs.ObjectViews.{mine, same_chain, sound_place}
 
-are_within : (objects : FinMap nat_cmp (List ℕ)) → ((n : ℕ) → IfSome (finite.get objects n) (IsLimitedObject n)) → AreWithin objects
-are_within objects limited n = go (finite.get objects n) (limited n)
-  where
-    go : (o : Option (List ℕ)) → IfSome o (IsLimitedObject n) → IfSome o (λ bytes. (n < object_count) × (length bytes ≤ max_length))
-    go None h = tt
-    go (Some bytes) h = (h.0, h.1)
-
--- the records of a chain, on a tree with the lengths of a list
-module _ (p : PoolPaths) (entries : List (ObjectId × ℕ)) (rising : AreRising 0 entries object_count) (tree : Tree) (has : HasListedLengths entries tree) where
-  abbrev outline : Outline
-  outline = record { name = p.found.name; tree = tree }
-
-  -- contents of zeros
-  abbrev zeros : Contents
-  zeros = record { name = p.found.name; objects = objects_of_zeros entries }
-
+-- the records of a chain, on contents with the name of the paths and the lengths of a list
+module _ (p : PoolPaths) (entries : List (ObjectId × ℕ)) (rising : AreRising 0 entries object_count) (zeros : declared.Contents) (named : zeros.name ≡ p.found.name) (has : HasListedLengths entries zeros) where
   lengths_given : (c : Contents) → IsOfLengths p.found.name entries c → (n : ℕ) → length_of c n ≡ length_among entries n
   lengths_given c is n = sym (among-listed c.objects n) ∙ ap (λ (l : List (ObjectId × ℕ)). length_among l n) is.objects_are
 
-  zeros_given : (n : ℕ) → length_of zeros n ≡ length_among entries n
-  zeros_given n = lengths_given zeros (record { name_is = refl; objects_are = listed-zeros entries rising }) n
-
-  outlined : IsOutlineOf outline zeros
-  outlined = record {
-    name_is = refl;
-    lengths = λ n low. has n ∙ sym (zeros_given n);
-    bounded = record { name = p.found.named; objects = zeros_limited entries rising };
-  }
-
-  alike : (c : Contents) → IsOfLengths p.found.name entries c → AreAlike zeros c
-  alike c is = record { name_is = sym is.name_is; lengths = λ n. zeros_given n ∙ sym (lengths_given c is n) }
+  alike : (c : Contents) → IsOfLengths p.found.name entries c → AreAlike (contents_of zeros) c
+  alike c is = record { name_is = named ∙ sym is.name_is; lengths = λ n. has n ∙ sym (lengths_given c is n) }
 
   -- take place on all contents of these lengths
-  module _ (last : Outline) (count : ℕ) (replayed : ReplaysOutline (records_of p) outline (Ok count) last) (list : List (ObjectId × ℕ)) (lists : ListsObjectsOf last.tree list) where
-    after : (c : Contents) × (apply_records (records_of p) zeros ≡ Ok c) × IsOutlineOf last c
-    after = replayed.1 zeros outlined
-
-    within : AreWithin after.0.objects
-    within = are_within after.0.objects after.2.bounded.objects
-
-    list_is : list ≡ listed after.0.objects
-    list_is = lists after.0.objects within after.2.lengths
+  module _ (changes : Extents) (count : ℕ) (are : AreChangesOf (records_of p) (contents_of zeros) (changes, count)) (list : List (ObjectId × ℕ))
+      (lists : AreWithin (laid_over (patches_of changes) (contents_of zeros).objects) → list ≡ listed (laid_over (patches_of changes) (contents_of zeros).objects)) where
+    within : AreWithin (laid_over (patches_of changes) (contents_of zeros).objects)
+    within = (objects_stay_within changes).1 (contents_of zeros).objects (listed_within (contents_of zeros).objects entries rising has)
 
     pub list_rises : AreRising 0 list object_count
-    list_rises = subst (λ (l : List (ObjectId × ℕ)). AreRising 0 l object_count) (sym list_is) (listed_rises after.0.objects within)
+    list_rises = subst (λ (l : List (ObjectId × ℕ)). AreRising 0 l object_count) (sym (lists within)) (listed_rises (laid_over (patches_of changes) (contents_of zeros).objects) within)
 
-    pub led : (l : ListedPool) → l.name ≡ last.name → l.objects.items ≡ list → (synced : Contents) → IsOfLengths p.found.name entries synced
+    pub led : (l : ListedPool) → l.name ≡ unwrap_or (name_of changes) zeros.name → l.objects.items ≡ list → (synced : Contents) → IsOfLengths p.found.name entries synced
         → (now : Contents) × (apply_records (records_of p) synced ≡ Ok now) × ListsContents l now
-    led l named are synced is =
-        let (now, reaches, same) = alike_led (records_of p) zeros synced after.0 (alike synced is) after.1 in (
+    led l named_so are_so synced is =
+        let (now, reaches, same) = alike_led (records_of p) (contents_of zeros) synced (with_changes changes (contents_of zeros)) (alike synced is) are.1 in (
           now,
           reaches,
           record {
-            name_is = named ∙ sym after.2.name_is ∙ same.name_is;
-            objects_are = are ∙ list_is ∙ listed-same after.0.objects now.objects same.lengths within;
+            name_is = named_so ∙ same.name_is;
+            objects_are = are_so ∙ lists within ∙ listed-same (laid_over (patches_of changes) (contents_of zeros).objects) now.objects same.lengths within;
           },
         )
 
   -- or one of them can't on any
-  pub stopped : (address : ℕ) → ((c : Contents) → IsOutlineOf outline c → IsRecordRefused (records_of p) c address) → (synced : Contents) → IsOfLengths p.found.name entries synced → IsRecordRefused (records_of p) synced address
-  stopped address refused synced is = alike_refused (records_of p) zeros synced address (alike synced is) (refused zeros outlined)
+  pub stopped : (e : PoolError) → IsReplayRefusal (records_of p) (contents_of zeros) e → IsRefusedOn p entries e
+  stopped e (inl none) = inl none
+  stopped e (inr (address, is, refused)) = inr (address, is, λ synced of. alike_refused (records_of p) (contents_of zeros) synced address (alike synced of) refused)
 
 -- what the directories of an image have
 pub has_entries : (image : List ℕ) (u : Uberblock) (frame : Frame) (entries : List (ObjectId × ℕ)) → frame ≡ frame_of image u → AreSoundAbove image frame u.root → ListsEntries image u.root entries

@@ -11,11 +11,12 @@ use Rattle.base.specs.formats.Uberblocks.{Uberblock}
 use Rattle.base.specs.history.Contents.{Contents}
 use Rattle.base.specs.tree.Mount.{HasNoPool, HasPool, IsChainOf, Mount, Placed, apply_records, frame_of, records_above}
 use Rattle.device_model.specs.declared.device.SectorDevice.{Ghosts}
-use Rattle.log_replay.specs.Outlines.{counted_up_to_last}
+use Rattle.log_replay.specs.AddedRecords.{counted_up_to_last}
 use Rattle.log_replay.specs.Replays.{IsRecordRefused}
-use Rattle.tree_blocks.specs.Lengths.{lengths_of}
+use Rattle.contents.specs.ContentsShown.{contents_of}
+use Rattle.tree_blocks.specs.Sources.{object_length}
+use Rattle.contents.specs.declared.contents.Contents as declared
 use Rattle.tree_blocks.specs.ListedObjects.{listed}
-use Rattle.tree_blocks.specs.declared.tree.Tree.{Tree}
 use Rattle.trees.specs.EntryLists.{AreRising, AreSoundAbove, ListsEntries, TellsFirstAbove}
 use Rattle.inspections.specs.Refused.{IsInspectionRefusal}
 use Rattle.object_views.specs.PoolPaths.{uberblock_of}
@@ -95,9 +96,13 @@ abbrev pub length_among : List (ObjectId × ℕ) → ℕ → Option ℕ
 length_among [] n = None
 length_among (o ∷ others) n = if n == o.0.0 then Some o.1 else length_among others n
 
--- a tree has the lengths of these objects, and no other
-abbrev pub HasListedLengths : List (ObjectId × ℕ) → Tree → Type 0
-HasListedLengths entries tree = (n : ℕ) → lengths_of tree n ≡ length_among entries n
+-- the length of object n of contents
+abbrev pub length_at : declared.Contents → ℕ → Option ℕ
+length_at c n = object_length (contents_of c).objects n
+
+-- contents have objects of these lengths, and no other
+abbrev pub HasListedLengths : List (ObjectId × ℕ) → declared.Contents → Type 0
+HasListedLengths entries c = (n : ℕ) → length_at c n ≡ length_among entries n
 
 -- the records that an import by these paths would apply
 abbrev pub records_of : PoolPaths → List Placed

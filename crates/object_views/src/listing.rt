@@ -1,7 +1,7 @@
 //! The objects of a pool with their lengths, as an import would mount them, found by reads alone. Nothing is written.
 //!
 //! Of the tree the root and the directories are read, so no damage below them is found. The log records that an import
-//! would apply are replayed on the name and the lengths alone, as by `inspect`.
+//! would apply are replayed on objects of zeros, of the lengths that the directories have.
 
 ghost use Rattle.std.specs.Prelude.{◌≡◌, ◌≢◌, ◌<◌, ℕ, IfErr, IfOk, IsTrue, Some};
 ghost use Rattle.base.specs.disk.Disk.{bytes_of};
@@ -9,18 +9,19 @@ ghost use Rattle.base.specs.formats.Limits.{object_count};
 ghost use Rattle.base.specs.history.Contents.{Contents};
 ghost use Rattle.base.specs.tree.Mount.{IsMounted, Mount, MountsTo};
 ghost use Rattle.device_model.specs.Reading.{OnlyReads};
-ghost use Rattle.tree_blocks.specs.Lengths.{lengths_of};
 ghost use Rattle.trees.specs.EntryLists.{AreRising};
 ghost use Rattle.inspections.specs.PoolDamages.{IsOfNoDamage};
-ghost use Rattle.object_views.specs.Listings.{HasListedLengths, IsListingOf, IsListingOfMount, IsListingRefused, ListsContents};
+ghost use Rattle.object_views.specs.Listings.{HasListedLengths, IsListingOf, IsListingOfMount, IsListingRefused, ListsContents, length_at};
 
 use crate::paths::{PoolPaths, find_paths};
-use base::{Group, ObjectId, POINTER_COUNT, Pointer, PoolError, PoolName};
+use base::{Group, ObjectId, PoolError, PoolName};
+use contents::{Contents, Slot, zero_bytes};
 use device_model::SectorDevice;
+use extents::Laid;
 use import_replay::frame_of;
-use log_replay::Outline;
+use inspections::list_objects;
+use log_replay::changes_of;
 use std::alloc::{AllocError, Global};
-use tree_blocks::{Tree, empty_entries};
 use trees::list_entries;
 
 /// What the labels, the log chain, the root and the directories say of a pool that an import would mount.
@@ -138,13 +139,9 @@ impl PoolPaths {
         ensures refused { IfErr result (IsRefusedOn self.now entries.now) }
     {
         let uberblock = &self.found.uberblock;
-        let tree = tree_of(alloc, entries)?;
-        let mut outline = Outline {
-            name: self.found.name.copy(),
-            tree,
-        };
-        let records = outline.replay(uberblock.group, &self.logged)?;
-        let objects = outline.tree.list_objects(alloc)?;
+        let contents = zeros_of(alloc, &self.found.name, entries)?;
+        let (changes, records) = changes_of(alloc, uberblock.group, &contents, &self.logged)?;
+        let objects = list_objects(alloc, &Laid::new(&changes, &contents))?;
         let blocks = self.geometry.blocks();
         Ok(ListedPool {
             guid: uberblock.guid,
@@ -152,34 +149,38 @@ impl PoolPaths {
             import_number: uberblock.import_number,
             blocks,
             records,
-            name: outline.name,
+            name: changes.name_over(&contents.name).copy(),
             objects,
         })
     }
 }
 
-// A tree with the lengths of these objects, and with no pointers.
-fn tree_of(alloc: Global, objects: &[(ObjectId, u64)]) -> Result<Tree, AllocError>
+// The contents with this name, and with objects of zeros of these lengths.
+fn zeros_of(
+    alloc: Global,
+    name: &PoolName,
+    objects: &[(ObjectId, u64)],
+) -> Result<Contents, AllocError>
     requires { AreRising 0 objects.now object_count }
-    ensures { IfOk result (HasListedLengths objects.now) }
+    ensures name { IfOk result (λ c. c.name ≡ name.now) }
+    ensures lengths { IfOk result (HasListedLengths objects.now) }
 {
-    let directories = vec![in alloc; Pointer::NONE; POINTER_COUNT]?;
-    let entries = empty_entries(alloc)?;
-    let mut tree = Tree {
-        root: Pointer::NONE,
-        directories,
-        entries,
-    };
+    let mut contents = Contents::new(alloc, name.copy())?;
     for object in objects {
-        set_length(&mut tree, object.0, object.1);
+        set_length(&mut contents, object.0, object.1);
     }
-    Ok(tree)
+    Ok(contents)
 }
 
-fn set_length(tree: &mut Tree, object: ObjectId, length: u64)
+fn set_length(contents: &mut Contents, object: ObjectId, length: u64)
     requires { object.0 < object_count }
-    ensures length { lengths_of tree.new object.0 ≡ Some length }
-    ensures others { (n : ℕ) → n ≢ object.0 → lengths_of tree.new n ≡ lengths_of tree.old n }
+    ensures name { contents.new.name ≡ contents.old.name }
+    ensures length { length_at contents.new object.0 ≡ Some length }
+    ensures others { (n : ℕ) → n ≢ object.0 → length_at contents.new n ≡ length_at contents.old n }
 {
-    tree.entries[object.0 as usize].length = Some(length);
+    contents.slots[object.0 as usize] = Slot {
+        present: true,
+        size: length,
+        bytes: zero_bytes(length),
+    };
 }

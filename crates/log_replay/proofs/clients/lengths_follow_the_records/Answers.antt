@@ -1,6 +1,11 @@
+use Rattle.std.proofs.lemmas.Result.{IfOk-weaker}
+use Rattle.contents.specs.ContentsShown.{contents_of}
 use Rattle.log_replay.proofs.Callers.{length_grown}
 use Rattle.log_replay.proofs.clients.lengths_follow_the_records.Goals as goal
 
-pub returns : goal.returns
-returns c = λ contents is absent.
-    length_grown contents absent c.args.outline.now c.replay.new.self c.replay.result is (rw c.requires.chain at c.replay.ensures)
+pub returns-clause-count : goal.returns-clause-count
+returns-clause-count c = IfOk-weaker c.changes_of.result _ _ (λ r is. (rw c.requires.chain at is).0) c.changes_of.ensures.changes
+
+pub returns-clause-length : goal.returns-clause-length
+returns-clause-length c =
+    IfOk-weaker c.changes_of.result _ _ (λ r is. length_grown (contents_of c.args.contents.now) c.requires.absent r (rw c.requires.chain at is)) c.changes_of.ensures.changes

@@ -4,7 +4,7 @@ use Rattle.std.proofs.lemmas.List.{take_all}
 use Rattle.std.proofs.lemmas.Result.{err_from_is_err_and}
 use Rattle.records.specs.declared.record.Record.{Record}
 use Rattle.log_replay.specs.Walked.{above_at}
-use Rattle.log_replay.proofs.OutlineRecords.{slice_allowed}
+use Rattle.log_replay.proofs.AddedRecords.{slice_allowed}
 use Rattle.object_views.specs.OwnRecords.{AddsOwn, PlacedOp, own_of_records}
 use Rattle.object_views.proofs.OwnRecords.{adds_next, adds_stop, own_piece, passed}
 use Rattle.object_views.proofs.own_records.OwnObject.add_piece.Goals as goal

@@ -14,7 +14,7 @@ use Rattle.base.specs.formats.Uberblocks.{Uberblock}
 use Rattle.base.proofs.crash.LogChains.{chains_end}
 use Rattle.base.proofs.formats.Geometry.{IsGeometry-IsSize}
 use Rattle.base.proofs.formats.RecordSizes.{length-bytes_of_record}
-use Rattle.log_replay.specs.Outlines.{counted_up_to_last}
+use Rattle.log_replay.specs.AddedRecords.{counted_up_to_last}
 
 -- each record has bytes
 records_have_bytes : (rs : List formats.Record) → length rs ≤ length (bytes_of_records rs)
