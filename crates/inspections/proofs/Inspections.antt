@@ -112,7 +112,7 @@ module _ (size : ℕ) (u : Uberblock) (name : List ℕ) (tree : Tree) (slots : L
 pub is_chain_damaged : (image : List ℕ) (size : ℕ) (u : Uberblock) (name : List ℕ) (tree : Tree) (slots : List Slot) (chain : List LogPiece) → IsReadPool image size u name tree slots chain → (e : PoolError)
     → IsReplayCause e → IsReplayRefusal (records_above u.group chain) (synced_with name slots) e → (address : ℕ) → e ≡ Damaged 6 address → IsChainDamaged image address
 is_chain_damaged image size u name tree slots chain read e cause refused address is =
-    elim (reason_of_replay image size u name tree slots chain read e cause refused).damaged 6 address is as (λ _. IsChainDamaged image address) [
+    elim ((reason_of_replay image size u name tree slots chain read e cause refused).damaged 6 address is) as (λ _. IsChainDamaged image address) [
       | inl damaged ↦ absurd (not_of_tree damaged.damage.place damaged.damage.kind_is)
       | inr log ↦ log.1
     ]

@@ -1,8 +1,7 @@
 -- What a list of a pool has is what the image mounts, and why one is refused.
-use Rattle.std.proofs.Common.{◌≡◌, ◌⊎◌, inl, inr, ℕ, zero, suc, ◌<◌, ◌≤◌, arith, List, length, Ok, refl, sym, ap, subst, ◌∙◌}
+use Rattle.std.proofs.Common.{◌≡◌, ◌⊎◌, inl, inr, ℕ, zero, suc, arith, List, length, Ok, sym, ap, subst, ◌∙◌}
 use Rattle.std.specs.Prelude.{IsTrue, unwrap_or}
 use Rattle.std.specs.Ordering.{nat_cmp}
-use Rattle.std.specs.FinMap as finite
 use Rattle.std.specs.FinMap.{FinMap}
 use Rattle.base.specs.declared.error.PoolError.{PoolError}
 use Rattle.base.specs.declared.error.PoolError.TheVariants.{Damaged, NoMemory}
@@ -27,7 +26,7 @@ use Rattle.contents.specs.declared.contents.Contents as declared
 use Rattle.extents.specs.declared.extents.Extents.{Extents}
 use Rattle.extents.specs.Patches.{laid_over}
 use Rattle.extents.specs.Tables.{name_of, patches_of}
-use Rattle.extents.proofs.LaidWithin.{objects_stay_within}
+use Rattle.extents.proofs.LaidWithin.{stay_within}
 use Rattle.log_replay.specs.AddedRecords.{AreChangesOf, with_changes}
 use Rattle.log_replay.specs.Replays.{IsRecordRefused, IsReplayRefusal}
 use Rattle.log_replay.proofs.RefusedRecords.{none_reached}
@@ -56,7 +55,7 @@ module _ (p : PoolPaths) (entries : List (ObjectId × ℕ)) (rising : AreRising 
   module _ (changes : Extents) (count : ℕ) (are : AreChangesOf (records_of p) (contents_of zeros) (changes, count)) (list : List (ObjectId × ℕ))
       (lists : AreWithin (laid_over (patches_of changes) (contents_of zeros).objects) → list ≡ listed (laid_over (patches_of changes) (contents_of zeros).objects)) where
     within : AreWithin (laid_over (patches_of changes) (contents_of zeros).objects)
-    within = (objects_stay_within changes).1 (contents_of zeros).objects (listed_within (contents_of zeros).objects entries rising has)
+    within = (stay_within changes).1 (contents_of zeros).objects (listed_within (contents_of zeros).objects entries rising has)
 
     pub list_rises : AreRising 0 list object_count
     list_rises = subst (λ (l : List (ObjectId × ℕ)). AreRising 0 l object_count) (sym (lists within)) (listed_rises (laid_over (patches_of changes) (contents_of zeros).objects) within)

@@ -1,5 +1,3 @@
-use Rattle.std.proofs.Common.{ap, subst, ◌∙◌, List}
-use Rattle.base.specs.declared.error.PoolError.{PoolError}
 use Rattle.uberblocks.specs.Slots.{fields_of}
 use Rattle.import_replay.proofs.Reasons.{passed_on}
 use Rattle.inspections.proofs.Inspections.{inspected, is_chain_damaged, is_told_bounded}

@@ -1,4 +1,4 @@
-use Rattle.std.proofs.Common.{refl}
+use Rattle.std.proofs.Common.{refl, ◌∙◌}
 use Rattle.import_replay.proofs.Reasons.{passed_on}
 use Rattle.log_replay.specs.AddedRecords.{AreChangesOf}
 use Rattle.log_replay.specs.Replays.{IsReplayRefusal}
@@ -31,7 +31,7 @@ returns-clause-replayed c =
     let list = c.in_ok-objects.objects.items in
     let lists = rw c.new.ensures at c.in_ok-objects.ensures in
     record {
-      replayed = led p entries c.requires.rising zeros told.name told.lengths changes count are list lists _ refl refl;
+      replayed = led p entries c.requires.rising zeros told.name told.lengths changes count are list lists _ (c.copy.ensures.copy ∙ c.name_over.ensures) refl;
       rising = list_rises p entries c.requires.rising zeros told.name told.lengths changes count are list lists;
       guid = refl;
       group = refl;
