@@ -1,7 +1,7 @@
 //! All damages of a tree, in the order of its walk (`one_walk.rt`). What lies below a damaged block isn't read,
 //! everything else is.
 
-ghost use Rattle.std.specs.Prelude.{◌<◌, ◌≤◌, IfOk, IfErr, IsTrue};
+ghost use Rattle.std.specs.Prelude.{◌≡◌, ◌<◌, ◌≤◌, IfOk, IfErr, IsTrue};
 ghost use Rattle.base.specs.disk.Disk.{bytes_of};
 ghost use Rattle.base.specs.formats.Geometry.{block_address};
 ghost use Rattle.device_model.specs.Reading.{OnlyReads};

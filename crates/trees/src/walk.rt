@@ -7,7 +7,7 @@
 //! than twenty blocks in memory: those of the root, a directory, a top and an indirect block, and copies of four
 //! records, which are read ahead.
 
-ghost use Rattle.std.specs.Prelude.{◌≡◌, ℕ, ◌≤◌, [], IfOk, IfErr, IsTrue, false, true};
+ghost use Rattle.std.specs.Prelude.{◌≡◌, ℕ, ◌≤◌, [], List, IfOk, IfErr, IsTrue, false, true};
 ghost use Rattle.base.specs.disk.Disk.{bytes_of};
 ghost use Rattle.base.specs.formats.Geometry.{block_address};
 ghost use Rattle.base.specs.tree.Damages.{IsFirstDamage};
