@@ -2,8 +2,8 @@
 
 `cc` compiles a `pread64`, a `pwrite64` and an `fsync` that wait before each call (`tools/harness/shims/delays.c`).
 
-- `create`, also over a pool, `check`, `get`, `put`, `rm` and `copy`: in the first second standard error has nothing. Then it has
-  how many bytes were read and written, and how many in a second, at most four times a second. They only grow.
+- `create`, also over a pool, `check`, `get`, `put`, `rm` and `copy`: in the first second standard error has nothing. Then
+  it has how many bytes were read and written, and how many in a second, at most four times a second. They only grow.
 - At the end a terminal shows what the same command prints on a quick file, and nothing else. So it does if the command
   is refused, or prints to the same terminal.
 - With `-q`, or if standard error is no terminal, there is no progress.
