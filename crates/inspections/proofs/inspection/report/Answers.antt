@@ -1,3 +1,5 @@
+use Rattle.std.proofs.Common.{◌≡◌}
+use Rattle.base.specs.declared.error.PoolError.TheVariants.{Damaged, NoMemory}
 use Rattle.uberblocks.specs.Slots.{fields_of}
 use Rattle.import_replay.proofs.Reasons.{passed_on}
 use Rattle.inspections.proofs.Inspections.{inspected, is_chain_damaged, is_told_bounded}
@@ -24,3 +26,7 @@ returns-in_err-pool-clause-damaged c = λ image read.
     let x = c.in_err-pool.field-0.0 in
     passed_on c.from_residual.result x _ c.from_residual.ensures.1
     (is_chain_damaged image c.args.geometry (fields_of found.uberblock) found.name l.tree l.slots.items c.args.logged.items read x c.in_err-pool.ensures.cause c.in_err-pool.ensures.refused)
+
+pub returns-in_err-objects-clause-damaged : goal.returns-in_err-objects-clause-damaged
+returns-in_err-objects-clause-damaged c = λ image read.
+    passed_on c.from_residual-in_err-objects.result NoMemory _ c.from_residual-in_err-objects.ensures.1 (λ address (is : NoMemory ≡ Damaged 6 address). cc)

@@ -1,4 +1,5 @@
 use Rattle.std.proofs.Common.{◌≡◌, false, true, refl, subst, sym, ◌∙◌}
+use Rattle.std.proofs.lemmas.Result.{err_from_is_err_and}
 use Rattle.base.specs.declared.error.PoolError.TheVariants.{NoMemory}
 use Rattle.base.specs.disk.Disk.{bytes_of}
 use Rattle.base.specs.formats.Geometry.{IsGeometry}
@@ -33,6 +34,12 @@ returns-in_err-pool-clause-refused g c =
     (walk_refused g.D.SectorDevice c.args.device.now _ x sized (cause_walks x c.in_err-pool.ensures.cause) (λ keeps.
     reason_of_replay (bytes_of (g.D.SectorDevice.disk c.args.device.now).now) c.in_ok-geometry.geometry (fields_of found.uberblock) found.name loaded.tree loaded.slots.items c.in_ok-found.logged.items
     (c.in_ok-found.ensures.pool keeps) x c.in_err-pool.ensures.cause c.in_err-pool.ensures.refused))
+
+pub returns-in_err-view-clause-reads : goal.returns-in_err-view-clause-reads
+returns-in_err-view-clause-reads g c =
+    let p = err_from_is_err_and c.from_residual-in_err-view.result c.from_residual-in_err-view.ensures.1 in
+    let reads = c.in_ok-found.ensures.reads in
+    record { size = reads.size; disk = reads.disk; count = rw (p.1, p.2) reads.count }
 
 pub returns-in_err-view-clause-refused : goal.returns-in_err-view-clause-refused
 returns-in_err-view-clause-refused g c =
