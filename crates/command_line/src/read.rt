@@ -5,11 +5,10 @@ use crate::request::Defaults;
 use clap::ArgMatches;
 use command_arguments::{
     Arguments, BenchArguments, BenchOrder, ChangeCommand, CheckArguments, CopyArguments,
-    CreateArguments,
-    GetArguments, GetNamedArguments, ListArguments, ListForm, LoadArguments, Options, Order,
-    PutArguments, PutNamedArguments, ReadCommand, RemoveArguments, RemoveNamedArguments,
-    ReportArguments, ReportForm, Scope, ScriptArguments, ScriptDevice, ServeArguments,
-    ShowArguments, ShowForm, SizedArguments, SpaceArguments, SpaceUnit, Verbosity,
+    CreateArguments, GetArguments, GetNamedArguments, ListArguments, ListForm, LoadArguments,
+    Options, Order, PutArguments, PutNamedArguments, ReadCommand, RemoveArguments,
+    RemoveNamedArguments, ReportArguments, ReportForm, Scope, ScriptArguments, ScriptDevice,
+    ServeArguments, ShowArguments, ShowForm, SizedArguments, SpaceArguments, SpaceUnit, Verbosity,
 };
 
 /// The arguments of the command that was named. `None` if a pool's guid is lacking: the words are there that each command
