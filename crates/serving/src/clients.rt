@@ -1,6 +1,6 @@
 //! What callers rely on of the command that serves a pool.
 
-mod frames;
+mod answers;
 
 ghost use Rattle.std.specs.Prelude.{ℕ, ◌≡◌, ◌++◌, Bool, IfSome, IsSomeAnd, IsTrue, List, None, Ok, Some, false, get_or, slice_get, true};
 ghost use Rattle.std.specs.Io.{StartsWith};

@@ -3,7 +3,7 @@ use Rattle.std.specs.Prelude.{Some}
 use Rattle.serving.specs.Inputs.{EndsWell, Streams}
 use Rattle.serving.specs.declared.inputs.Ending.TheVariants.{CutOff}
 use Rattle.serving.proofs.ServedClients.{ended, not_cut_off}
-use Rattle.serving.proofs.clients.frames.an_input_without_bytes_is_not_cut_off.Goals as goal
+use Rattle.serving.proofs.clients.answers.an_input_without_bytes_is_not_cut_off.Goals as goal
 
 pub returns : goal.returns
 returns g c = λ is.

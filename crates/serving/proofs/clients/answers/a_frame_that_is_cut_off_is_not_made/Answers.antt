@@ -1,7 +1,7 @@
 use Rattle.std.proofs.Common.{◌<◌, arith, length}
 use Rattle.serving.specs.Inputs.{program}
 use Rattle.serving.proofs.ClientFrames.{only_synced}
-use Rattle.serving.proofs.clients.frames.a_frame_that_is_cut_off_is_not_made.Goals as goal
+use Rattle.serving.proofs.clients.answers.a_frame_that_is_cut_off_is_not_made.Goals as goal
 
 pub returns : goal.returns
 returns g c = λ three.

@@ -1,5 +1,5 @@
 use Rattle.serving.proofs.ClientFrames.{appended, durable_answers, ok_with}
-use Rattle.serving.proofs.clients.frames.an_answer_of_a_durable_transaction_comes_after_its_flush.Goals as goal
+use Rattle.serving.proofs.clients.answers.an_answer_of_a_durable_transaction_comes_after_its_flush.Goals as goal
 
 pub returns : goal.returns
 returns g c =

@@ -2,7 +2,7 @@ use Rattle.serving.specs.Inputs.{EndsWell, Streams}
 use Rattle.std.specs.Prelude.{Some}
 use Rattle.serving.specs.declared.inputs.Ending.TheVariants.{Done}
 use Rattle.serving.proofs.ServedClients.{all_answered, ended}
-use Rattle.serving.proofs.clients.frames.a_serve_that_ends_well_answered_all_of_its_input.Goals as goal
+use Rattle.serving.proofs.clients.answers.a_serve_that_ends_well_answered_all_of_its_input.Goals as goal
 
 pub returns : goal.returns
 returns g c = λ done.

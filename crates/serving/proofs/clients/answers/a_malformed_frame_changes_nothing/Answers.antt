@@ -2,7 +2,7 @@ use Rattle.std.proofs.Common.{◌≡◌, ◌++◌, subst}
 use Rattle.frames.specs.Answers.{bytes_of_refused}
 use Rattle.frames.specs.declared.error.FrameError.{FrameError}
 use Rattle.serving.proofs.ClientFrames.{malformed, ok_with}
-use Rattle.serving.proofs.clients.frames.a_malformed_frame_changes_nothing.Goals as goal
+use Rattle.serving.proofs.clients.answers.a_malformed_frame_changes_nothing.Goals as goal
 
 pub returns-clause-unchanged : goal.returns-clause-unchanged
 returns-clause-unchanged g c =

@@ -1,5 +1,5 @@
 use Rattle.serving.proofs.ClientFrames.{both_answered}
-use Rattle.serving.proofs.clients.frames.two_transactions_of_a_frame_are_made_in_order.Goals as goal
+use Rattle.serving.proofs.clients.answers.two_transactions_of_a_frame_are_made_in_order.Goals as goal
 
 pub returns : goal.returns
 returns g c = λ a b spelled.

@@ -1,5 +1,5 @@
 use Rattle.serving.proofs.ServedClients.{front_answered}
-use Rattle.serving.proofs.clients.frames.a_serve_writes_nothing_but_answers.Goals as goal
+use Rattle.serving.proofs.clients.answers.a_serve_writes_nothing_but_answers.Goals as goal
 
 pub returns : goal.returns
 returns g c =
