@@ -43,6 +43,11 @@ static int wait_ready(topzerad *pool, short events) {
     return -1;
 }
 
+int topzerad_is_connected(const topzerad *pool) {
+    struct pollfd polled = {pool->socket, 0, 0};
+    return !poll(&polled, 1, 0);
+}
+
 static int flags_of(const topzerad *pool) {
     return pool->deadline == NO_DEADLINE ? MSG_NOSIGNAL : MSG_NOSIGNAL | MSG_DONTWAIT;
 }

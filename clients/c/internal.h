@@ -10,6 +10,10 @@ enum { REQUESTS = 1, ANSWERS, REFUSED_FRAME, OPENED, UNOPENED, HOLDING, READING_
 
 enum { LAST_REFUSAL = 23 }; /* refusals of a pool have the numbers 1 to this one */
 
+/* Of reads, in bytes: the most of one request, unless it reads ahead; what a cache keeps at once; the most of a request
+ * that reads ahead, which are the whole units that one frame answers. */
+enum { TOPZERAD_PIECE = 1048576, TOPZERAD_UNIT = 4096, TOPZERAD_MOST_AHEAD = 1023 * TOPZERAD_UNIT };
+
 #define NO_DEADLINE UINT64_MAX
 
 static inline void put(uint8_t *to, uint64_t value, size_t count) {
@@ -40,6 +44,34 @@ int topzerad_put_out(topzerad *pool, const uint8_t *from, size_t count);
 int topzerad_empty_out(topzerad *pool);
 /* Takes bytes of a frame that has `*left` more, and counts them off. -1 also if it has fewer. */
 int topzerad_take_in(topzerad *pool, void *to, size_t count, size_t *left);
+
+/* Whether the process still has its end. */
+int topzerad_is_connected(const topzerad *pool);
+
+/* cache.c: a cache of reads. The rule that keeps it true stands there. All functions but the first two
+ * take its lock. */
+
+typedef struct topzerad_cache topzerad_cache;
+
+/* An empty cache of so many bytes, its own tables among them, or NULL with errno. They are taken as it fills. */
+topzerad_cache *topzerad_cache_new(uint64_t size);
+/* Gives a cache back, if it isn't NULL. */
+void topzerad_cache_end(topzerad_cache *cache);
+/* Reads all ranges that have no refusal, and sets their counts. Returns 0 if it doesn't have them all: nothing is read
+ * then. */
+int topzerad_cache_read(topzerad_cache *cache, topzerad_range *ranges, size_t count);
+/* What is to be asked for a range: whole units from `low` to `high`, and more of them if it follows other reads in
+ * order. Those below `past` are to be kept, which are no more than a quarter of the cache. */
+typedef struct {
+    uint64_t low, high, past;
+} topzerad_plan;
+topzerad_plan topzerad_cache_plan(topzerad_cache *cache, const topzerad_range *range);
+/* An answer has the bytes of the unit that begins at `low`. They are fewer than a unit at the end of an object. */
+void topzerad_cache_keep(topzerad_cache *cache, uint32_t object, uint64_t low, const uint8_t *bytes, size_t count);
+/* An answer says that a transaction took place. */
+void topzerad_cache_change(topzerad_cache *cache, const uint8_t *record, size_t length);
+/* No answer can be relied on any more. */
+void topzerad_cache_stop(topzerad_cache *cache);
 
 /* topzerad.c */
 

@@ -24,7 +24,7 @@ extern char **environ;
 #define SECOND UINT64_C(1000000000)
 #define GRACE SECOND /* how long a process may take to end once its pool failed to open */
 
-enum { MOST_SECONDS = 86400, LEAST_DIRTY = 4096, MOST_CACHE = 4096 };
+enum { MOST_SECONDS = 86400, LEAST_DIRTY = 4096, MOST_CACHE = 4096, LEAST_READS = 65536, MOST_READS = 1 << 30 };
 #define MOST_DIRTY (UINT64_C(1) << 40)
 
 enum { OPENING = 24 };      /* the bytes after the head of an opening, besides the cause */
@@ -76,7 +76,7 @@ static void add_file(line *l, const char *path) {
 
 /* Options. */
 
-/* Tests the options of an open, or of a create, which takes neither a dirty limit nor a cache. Returns 0, or a refusal
+/* Tests the options of an open, or of a create, which takes neither a dirty limit nor caches. Returns 0, or a refusal
  * with its cause. */
 static int test_options(const topzerad_options *o, int is_open, char cause[TOPZERAD_MAX_CAUSE + 1]) {
     size_t size = TOPZERAD_MAX_CAUSE + 1;
@@ -84,6 +84,8 @@ static int test_options(const topzerad_options *o, int is_open, char cause[TOPZE
         snprintf(cause, size, "dirty limit %" PRIu64 ": %d to %" PRIu64 " bytes", o->dirty, LEAST_DIRTY, MOST_DIRTY);
     else if (is_open && o->cache > MOST_CACHE)
         snprintf(cause, size, "cache %" PRIu32 ": 1 to %d blocks", o->cache, MOST_CACHE);
+    else if (is_open && o->read_cache && (o->read_cache < LEAST_READS || o->read_cache > MOST_READS))
+        snprintf(cause, size, "read cache %" PRIu64 ": %d to %d bytes", o->read_cache, LEAST_READS, MOST_READS);
     else if (o->wait > MOST_SECONDS)
         snprintf(cause, size, "wait %" PRIu32 ": 0 to %d seconds", o->wait, MOST_SECONDS);
     else if (!(o->timeout >= 0 && o->timeout <= MOST_SECONDS))
@@ -242,9 +244,15 @@ static int read_opening(topzerad *pool) {
     return refusal_of(number, fields);
 }
 
+static void end_cache(topzerad *pool) {
+    topzerad_cache_end(pool->cache);
+    pool->cache = NULL;
+}
+
 /* Ends the process of a pool that failed to open, or the connection to a hub, and says why it did. */
 static void give_up(topzerad *pool, int refusal) {
     int status = UNKNOWN_END, error = errno;
+    end_cache(pool);
     close(pool->socket);
     pool->socket = -1;
     int ended = pool->process && end_process(pool->process, pool->is_late ? 0 : topzerad_now() + GRACE, &status);
@@ -269,6 +277,7 @@ static void begin(topzerad *pool) {
     pool->last = &pool->first;
     pool->used = pool->taken = 0;
     pool->asked = pool->timeout = 0;
+    pool->cache = NULL;
     pool->deadline = NO_DEADLINE;
     pool->opening = (topzerad_opening){0, 0, 0};
     pool->cause[0] = 0;
@@ -277,6 +286,7 @@ static void begin(topzerad *pool) {
 /* Reads the opening of a pool whose process was started, or whose hub was connected to, unless that failed. */
 static int take_opening(topzerad *pool, int failed) {
     if (failed) {
+        end_cache(pool);
         pool->socket = -1;
         errno = failed;
         return pool->is_late ? TOPZERAD_TIMED_OUT : TOPZERAD_SYSTEM;
@@ -307,6 +317,17 @@ int topzerad_open_with(topzerad *pool, const char *const words[]) {
     return open_uncancelled(pool, words);
 }
 
+/* Makes a cache of reads, if one is asked for. */
+static int begin_cache(topzerad *pool, uint64_t size) {
+    char what[64];
+    if (!size) return 0;
+    pool->cache = topzerad_cache_new(size);
+    if (pool->cache) return 0;
+    snprintf(what, sizeof what, "read cache of %" PRIu64 " bytes: ", size);
+    set_system_cause(pool->cause, what, errno);
+    return TOPZERAD_NO_MEMORY;
+}
+
 int topzerad_open_options(topzerad *pool, const char *program, const char *path, const topzerad_options *options) {
     static const topzerad_options defaults;
     if (!options) options = &defaults;
@@ -315,6 +336,8 @@ int topzerad_open_options(topzerad *pool, const char *program, const char *path,
     if (refusal) return refusal;
     pool->timeout = timeout_of(options);
     pool->deadline = deadline_of(options);
+    refusal = begin_cache(pool, options->read_cache);
+    if (refusal) return refusal;
     line l;
     begin_line(&l, program, "serve", options);
     add_option(&l, "--dirty", options->dirty);
@@ -364,7 +387,8 @@ int topzerad_open_socket(topzerad *pool, const char *path, const topzerad_option
     if (!options) options = &defaults;
     begin(pool);
     int refusal = test_options(options, 1, pool->cause);
-    if (!refusal && (options->dirty || options->cache || options->moment || options->wait)) {
+    int has_others = options->dirty || options->cache || options->moment || options->wait || options->read_cache;
+    if (!refusal && has_others) {
         snprintf(pool->cause, sizeof pool->cause, "of a pool that a hub has the timeout alone can be set");
         refusal = TOPZERAD_BAD_RANGE;
     }
@@ -388,6 +412,7 @@ const char *topzerad_cause(const topzerad *pool) { return pool->cause; }
 
 /* Gives up what a pool has besides its process. */
 static void end_pool(topzerad *pool) {
+    end_cache(pool);
     close(pool->socket);
     pool->socket = -1;
     pthread_mutex_destroy(&pool->lock);
@@ -418,6 +443,7 @@ int topzerad_close(topzerad *pool) {
     int state;
     if (pool->socket < 0) return TOPZERAD_ENDED;
     if (topzerad_is_forked(pool)) {
+        end_cache(pool);
         close(pool->socket);
         pool->socket = -1;
         return TOPZERAD_FORKED;

@@ -2,7 +2,9 @@
  * the answers into the memory of their callers, and wakes them. While it waits, the next ones gather.
  *
  * A long read is made in pieces, each in a frame of its own. It is the last call of such a frame, and goes back to the
- * front of the queue, so no call comes between its pieces. */
+ * front of the queue, so no call comes between its pieces.
+ *
+ * With a cache a read that it does not have asks for whole units, and the cache follows each answer (cache.c). */
 #define _POSIX_C_SOURCE 200809L
 #include "internal.h"
 
@@ -12,7 +14,6 @@
 #include <unistd.h>
 
 enum { LEAST_ROOM = 80, LISTED = 12, RECORD_HEAD = 22, MOST_AT_ONCE = 64 };
-enum { PIECE = 1048576 }; /* the most bytes that one request reads */
 enum { TRANSACT = 1, TRANSACT_DURABLY, READ, LENGTH, OBJECTS, STATUS, DURABLE, FLUSH, SYNC, NAME, NOT_DURABLE };
 
 /* A call that waits for its answer, on its caller's stack. */
@@ -26,6 +27,9 @@ typedef struct topzerad_call {
     void *into;               /* where the bytes or the objects of its answer go, and how many fit */
     size_t most, count;
     uint64_t low, high;       /* of a read: where its piece begins, and where its range ends */
+    size_t piece;             /* and the most bytes of a piece */
+    topzerad_range *kept;     /* of a read that the cache keeps: the range that its caller wants, or NULL */
+    uint64_t kept_past;       /* and where the cache has no room for more */
     uint64_t values[7];       /* the numbers of its answer */
     uint64_t kind, address;   /* of a refusal: the block that is damaged */
     int refusal, committed, done;
@@ -202,6 +206,27 @@ static int read_objects(topzerad *pool, call *c, size_t *left) {
     return 0;
 }
 
+/* Gives the caller of a read what it wants of the bytes from `low` on. */
+static void give(const topzerad_range *wanted, uint64_t low, const uint8_t *bytes, size_t count) {
+    uint64_t from = low > wanted->low ? low : wanted->low;
+    uint64_t past = low + count < wanted->high ? low + count : wanted->high;
+    if (from < past) memcpy((uint8_t *)wanted->into + (from - wanted->low), bytes + (from - low), past - from);
+}
+
+/* Reads the units of a read that the cache keeps. */
+static int read_units(topzerad *pool, call *c, size_t *left) {
+    uint8_t unit[TOPZERAD_UNIT];
+    if (read_count(pool, c, left)) return -1;
+    for (size_t at = 0, count; at < c->count; at += count) {
+        count = c->count - at < sizeof unit ? c->count - at : sizeof unit;
+        if (topzerad_take_in(pool, unit, count, left)) return -1;
+        uint64_t low = c->low + at;
+        if (low < c->kept_past) topzerad_cache_keep(pool->cache, c->kept->object, low, unit, count);
+        give(c->kept, low, unit, count);
+    }
+    return 0;
+}
+
 /* Reads what came of a call. */
 static int read_outcome(topzerad *pool, call *c, uint8_t came, size_t *left) {
     uint8_t byte;
@@ -217,6 +242,7 @@ static int read_outcome(topzerad *pool, call *c, uint8_t came, size_t *left) {
         c->committed = 1;
         return read_values(pool, c, 2, left);
     case READ:
+        if (c->kept) return read_units(pool, c, left); /* fall through */
     case NAME:
         return read_count(pool, c, left) || topzerad_take_in(pool, c->into, c->count, left) ? -1 : 0;
     case LENGTH:
@@ -233,6 +259,13 @@ static int read_outcome(topzerad *pool, call *c, uint8_t came, size_t *left) {
     default:
         return 0;
     }
+}
+
+/* Lets the cache follow an answer. */
+static void follow(topzerad_cache *cache, const call *c) {
+    int is_suspended = c->refusal == TOPZERAD_WRITE || c->refusal == TOPZERAD_FLUSH || c->refusal == TOPZERAD_SUSPENDED;
+    if (c->committed) topzerad_cache_change(cache, c->content, c->content_count);
+    if (is_suspended) topzerad_cache_stop(cache);
 }
 
 static int read_frame(topzerad *pool, call *calls) {
@@ -253,6 +286,7 @@ static int read_frame(topzerad *pool, call *calls) {
     for (call *c = calls; c; c = c->next, count++) {
         if (topzerad_take_in(pool, start, 9, &left) || get(start, 8) != pool->asked + count) return -1;
         if (read_outcome(pool, c, start[8], &left)) return -1;
+        if (pool->cache) follow(pool->cache, c);
     }
     pool->asked += count;
     return left || said != count || pool->taken != pool->used ? -1 : 0;
@@ -287,7 +321,7 @@ static call *take_calls(topzerad *pool) {
 /* Makes a read ask for the piece of its range that begins at `low`. */
 static void ask_piece(call *c) {
     c->most = c->high > c->low ? c->high - c->low : 0;
-    if (c->most > PIECE) c->most = PIECE;
+    if (c->most > c->piece) c->most = c->piece;
     c->room = LEAST_ROOM + c->most;
     put(c->fields + 4, c->low, 8);
     put(c->fields + 12, goes_on(c) ? c->low + c->most : c->high, 8);
@@ -296,7 +330,7 @@ static void ask_piece(call *c) {
 /* After the answer to a piece: puts the read back to the front of the queue for the next one, if there is one. */
 static int put_back(topzerad *pool, call *c) {
     if (c->refusal || c->count < c->most || !goes_on(c)) return 0;
-    c->into = (uint8_t *)c->into + c->most;
+    if (!c->kept) c->into = (uint8_t *)c->into + c->most;
     c->low += c->most;
     ask_piece(c);
     c->next = pool->first;
@@ -335,6 +369,7 @@ static void refuse(call *calls, int refusal) {
  * taken for that of another call. */
 static void end_all(topzerad *pool, call *calls, int refusal) {
     pool->ended = 1;
+    if (pool->cache) topzerad_cache_stop(pool->cache);
     refuse(calls, refusal);
     refuse(pool->first, refusal);
     pool->first = NULL;
@@ -472,49 +507,96 @@ int topzerad_transact_many_durably(topzerad *pool, const topzerad_tx *txs, size_
     return transact_many(pool, TRANSACT_DURABLY, txs, count, outcomes);
 }
 
-static call new_read(const topzerad_range *range) {
+static int is_range(const topzerad_range *range) {
+    return range->object < TOPZERAD_OBJECTS && range->low < range->high && range->high <= TOPZERAD_MAX_LENGTH;
+}
+
+/* A read of a range, of the units that it lies in if it is to be kept. */
+static call new_read(topzerad *pool, topzerad_range *range, int keeps) {
     call c = new_call(READ);
     add_field(&c, range->object, 4);
     c.field_count += 16;
     c.into = range->into;
     c.low = range->low;
     c.high = range->high;
-    if (range->object >= TOPZERAD_OBJECTS || c.low >= c.high || c.high > TOPZERAD_MAX_LENGTH)
-        c.refusal = TOPZERAD_BAD_RANGE;
+    c.piece = TOPZERAD_PIECE;
+    c.refusal = is_range(range) ? 0 : TOPZERAD_BAD_RANGE;
+    if (keeps && !c.refusal) {
+        topzerad_plan plan = topzerad_cache_plan(pool->cache, range);
+        c.kept = range;
+        c.low = plan.low;
+        c.high = plan.high;
+        c.kept_past = plan.past;
+        if (range->high - range->low <= TOPZERAD_PIECE) c.piece = TOPZERAD_MOST_AHEAD;
+    }
     ask_piece(&c);
     return c;
 }
 
 /* Sets what came of a range. */
 static void take_read(topzerad_range *range, const call *c) {
+    uint64_t end = c->low + c->count < range->high ? c->low + c->count : range->high;
     range->refusal = c->refusal;
-    range->count = c->refusal ? 0 : c->low - range->low + c->count;
+    range->count = c->refusal || end < range->low ? 0 : end - range->low;
     range->kind = c->kind;
     range->address = c->address;
 }
 
-int topzerad_read_many(topzerad *pool, topzerad_range *ranges, size_t count) {
-    call calls[TOPZERAD_MAX_RANGES];
-    int first = 0;
-    if (count > TOPZERAD_MAX_RANGES) return TOPZERAD_TOO_MANY;
-    for (size_t i = 0; i < count; i++) calls[i] = new_read(&ranges[i]);
+/* Asks the process for ranges. */
+static void ask(topzerad *pool, topzerad_range *ranges, call *calls, size_t count, int keeps) {
+    for (size_t i = 0; i < count; i++) calls[i] = new_read(pool, &ranges[i], keeps);
     for (size_t i = count, last = 0; i--;) {
         calls[i].is_followed = last && !calls[i].refusal;
         if (!calls[i].refusal) last = 1;
     }
     make_all(pool, calls, count);
+    for (size_t i = 0; i < count; i++) take_read(&ranges[i], &calls[i]);
+}
+
+/* Whether a range was refused for what else was asked for, perhaps. */
+static int is_for_more(const call *calls, size_t count) {
     for (size_t i = 0; i < count; i++) {
-        take_read(&ranges[i], &calls[i]);
-        if (!first) first = told(&calls[i]);
+        int refusal = calls[i].refusal;
+        if (calls[i].kept && refusal && refusal != TOPZERAD_NO_OBJECT && refusal < TOPZERAD_SYSTEM) return 1;
+    }
+    return 0;
+}
+
+/* Reads ranges, from the cache if it has them all. In a child of a fork no lock of it is taken. */
+static void read_ranges(topzerad *pool, topzerad_range *ranges, call *calls, size_t count) {
+    int keeps = pool->cache && !topzerad_is_forked(pool);
+    if (keeps && topzerad_cache_read(pool->cache, ranges, count) && topzerad_is_connected(pool)) return;
+    ask(pool, ranges, calls, count, keeps);
+    if (is_for_more(calls, count)) ask(pool, ranges, calls, count, 0);
+}
+
+/* Reads ranges, for which there are as many calls. Returns 0 or the first refusal. */
+static int read_all(topzerad *pool, topzerad_range *ranges, call *calls, size_t count) {
+    int first = 0, state;
+    for (size_t i = 0; i < count; i++) {
+        ranges[i].refusal = is_range(&ranges[i]) ? 0 : TOPZERAD_BAD_RANGE;
+        ranges[i].count = 0;
+        ranges[i].kind = ranges[i].address = 0;
+    }
+    pthread_setcancelstate(PTHREAD_CANCEL_DISABLE, &state);
+    read_ranges(pool, ranges, calls, count);
+    pthread_setcancelstate(state, NULL);
+    for (size_t i = 0; i < count && !first; i++) {
+        first = ranges[i].refusal;
+        if (first == TOPZERAD_DAMAGED) topzerad_set_damage(ranges[i].kind, ranges[i].address);
     }
     return first;
 }
 
+int topzerad_read_many(topzerad *pool, topzerad_range *ranges, size_t count) {
+    call calls[TOPZERAD_MAX_RANGES];
+    return count > TOPZERAD_MAX_RANGES ? TOPZERAD_TOO_MANY : read_all(pool, ranges, calls, count);
+}
+
 int topzerad_read(topzerad *pool, uint32_t object, uint64_t low, uint64_t high, void *into, size_t *count) {
     topzerad_range range = {.object = object, .low = low, .high = high, .into = into};
-    call c = new_read(&range);
-    int refusal = make(pool, &c);
-    take_read(&range, &c);
+    call c;
+    int refusal = read_all(pool, &range, &c, 1);
     *count = range.count;
     return refusal;
 }

@@ -10,7 +10,10 @@
  *
  * Each call returns 0 or a refusal; topzerad_text has its words. A refused transaction changes nothing. After
  * TOPZERAD_WRITE and TOPZERAD_FLUSH the pool is suspended: close it and open it again. All memory is the caller's: the
- * library allocates none, and keeps nothing that is passed after the call.
+ * library allocates none but a cache of reads that is asked for, and keeps nothing that is passed after the call.
+ *
+ * With a cache of reads, `read_cache`, a read of bytes that were read before is answered by this process. It has what
+ * every call wrote that returned before, of whatever thread. What is read in order is read ahead.
  *
  * Limits: a transaction has at most 65,536 bytes and 256 operations; one of more operations is refused
  * TOPZERAD_TOO_MANY. Each write is charged 20,480 bytes or more of the dirty limit, so at the default limit one
@@ -95,6 +98,7 @@ typedef struct topzerad {
     uint16_t kind;
     struct topzerad_call *first, **last;
     uint64_t asked, timeout, deadline;
+    struct topzerad_cache *cache; /* of reads, or NULL */
     topzerad_opening opening;
     char cause[TOPZERAD_MAX_CAUSE + 1];
     uint8_t bytes[65536];
@@ -116,6 +120,9 @@ typedef struct {
     /* The seconds that the process may take to open or make the pool, besides `wait`; to answer a frame; and to end.
      * Up to 86,400, and 0.25 is a quarter of one. By default it has any time. */
     double timeout;
+    /* Of an open of a file: the most bytes of memory of this process that keep what was read, 65,536 to 2^30. They are
+     * taken as it fills. By default nothing is kept. */
+    uint64_t read_cache;
 } topzerad_options;
 
 /* Where a transaction stands in the history since the pool was opened, and its group. */
@@ -191,13 +198,15 @@ const char *topzerad_create_cause(void);
  * set a timeout if it may be one. The process has a process group of its own: a Ctrl-C that ends the caller lets it
  * sync the pool. */
 int topzerad_open(topzerad *pool, const char *program, const char *path);
-/* The same with options, which may be NULL. TOPZERAD_BAD_RANGE if one is outside its limits. */
+/* The same with options, which may be NULL. TOPZERAD_BAD_RANGE if one is outside its limits, and TOPZERAD_NO_MEMORY if
+ * this process can't have the cache of reads. */
 int topzerad_open_options(topzerad *pool, const char *program, const char *path, const topzerad_options *options);
 /* The same with a command line of the caller's, as {"ztxg", "serve", "tank.pool", "--wait", "10", NULL}. */
 int topzerad_open_with(topzerad *pool, const char *const words[]);
-/* Opens the pool of a hub that listens on a Unix socket. `options` may be NULL, and has the timeout alone. Returns 0;
- * TOPZERAD_SYSTEM with errno if there is no hub, or it doesn't let the caller in (EACCES) or has as many clients as it
- * may have (EAGAIN); TOPZERAD_BAD_RANGE for an option; TOPZERAD_TIMED_OUT; or TOPZERAD_NO_OPENING. */
+/* Opens the pool of a hub that listens on a Unix socket. `options` may be NULL, and has the timeout alone: no reads are
+ * kept, as other programs change the pool. Returns 0; TOPZERAD_SYSTEM with errno if there is no hub, or it doesn't let
+ * the caller in (EACCES) or has as many clients as it may have (EAGAIN); TOPZERAD_BAD_RANGE for any other option;
+ * TOPZERAD_TIMED_OUT; or TOPZERAD_NO_OPENING. */
 int topzerad_open_socket(topzerad *pool, const char *path, const topzerad_options *options);
 /* What the pool said when it was opened. */
 topzerad_opening topzerad_opened(const topzerad *pool);
@@ -223,7 +232,8 @@ int topzerad_transact_many(topzerad *pool, const topzerad_tx *txs, size_t count,
 /* The same, and returns once no power failure loses them. Those of a frame share one flush. */
 int topzerad_transact_many_durably(topzerad *pool, const topzerad_tx *txs, size_t count, topzerad_outcome *outcomes);
 /* Reads the bytes of [low, high) that lie below the object's length, at one moment. `into` has room for high - low,
- * `count` says how many there were. More than 1 MiB are read in several frames, and other calls wait for the last. */
+ * `count` says how many there were. More than 1 MiB are read in several frames, and other calls wait for the last. A
+ * read that follows another one in order asks for more, from 16 KiB to 4 MiB in one frame, if there is a cache. */
 int topzerad_read(topzerad *pool, uint32_t object, uint64_t low, uint64_t high, void *into, size_t *count);
 /* Reads ranges in their order, all at one moment: no change comes between. Returns 0, or the first refusal, which keeps
  * no other range from being read. TOPZERAD_TOO_MANY above TOPZERAD_MAX_RANGES: nothing is read. */

@@ -275,12 +275,12 @@ def an_end_of_the_process(tests):
         connection.execute("insert into t values (1)")
         (server,) = set(children(os.getpid())) - before
         os.kill(server, signal.SIGKILL)
-        for _ in range(2):
+        for statement in ("insert into t values (2)", "select * from t" if mode == "delete" else "delete from t"):
             try:
-                connection.execute("insert into t values (2)")
+                connection.execute(statement).fetchall()
                 raise Fault("it goes on without the process")
             except sqlite3.OperationalError as error:
-                want("I/O" in str(error), "the error is", error)
+                want("I/O" in str(error) or "unable to open" in str(error), "the error is", error)
         connection.close()
         connection = connect("app.db", tests.program, pool=pool)
         want(one(connection, "select count(*) from t") == 1, mode, "rows")
@@ -402,10 +402,37 @@ def statements(chance):
     yield "select * from three order by 1", ()
 
 
-def a_mixed_load(tests):
-    """A load as SQLite's speedtest1 has, on a pool and on a plain file: each statement gives the same rows."""
+def reads_are_kept(tests):
+    """What was read is read again while the process that has the pool is stopped."""
     for mode in ("delete", "wal"):
-        in_pool = connect("app.db", tests.program, pool=new_pool(tests, 128 * MIB, f"{mode}.pool"))
+        pool, before = new_pool(tests, name=f"{mode}.pool"), set(children(os.getpid()))
+        connection = connect("app.db", tests.program, pool=pool, read_cache="16M")
+        set_mode(connection, mode)
+        connection.execute("pragma cache_size=2")
+        connection.execute("create table t(a integer primary key, b)")
+        connection.executemany("insert into t values (?, zeroblob(3000))", ((at,) for at in range(50)))
+        total = "select sum(a), sum(length(b)) from t"
+        want(connection.execute(total).fetchone() == (1225, 150000), mode, "rows")
+        (process,) = set(children(os.getpid())) - before
+        os.kill(process, signal.SIGSTOP)
+        continues = threading.Timer(10, os.kill, (process, signal.SIGCONT))
+        continues.start()
+        begin = time.monotonic()
+        want(connection.execute(total).fetchone() == (1225, 150000), mode, "rows without the process")
+        want(time.monotonic() - begin < 10, mode, "a read waits for the process")
+        continues.cancel()
+        os.kill(process, signal.SIGCONT)
+        connection.execute("update t set b=zeroblob(2000) where a<10")
+        want(connection.execute(total).fetchone() == (1225, 140000), mode, "rows after an update")
+        connection.close()
+
+
+def a_mixed_load(tests):
+    """A load as SQLite's speedtest1 has, on a pool and on a plain file: each statement gives the same rows. One pool
+    has a cache of reads that is much too small."""
+    for mode, size in (("delete", "64K"), ("wal", "64M")):
+        pool = new_pool(tests, 128 * MIB, f"{mode}.pool")
+        in_pool = connect("app.db", tests.program, pool=pool, read_cache=size)
         plain = sqlite3.connect(tests.folder / f"{mode}.db", isolation_level=None)
         seconds = [0.0, 0.0]
         for connection in (in_pool, plain):
@@ -450,6 +477,7 @@ TESTS = [
     a_log_by_a_hub,
     several_databases,
     programs_share_a_database,
+    reads_are_kept,
     a_mixed_load,
     writers.kills,
     writers.power_failures,

@@ -6,6 +6,7 @@
 SQLITE_EXTENSION_INIT3
 
 enum { BLOCK = 4096, MOST_CACHE = 16 << 20, LEAST_DIRTY = 1 << 20, MOST_SECONDS = 86400, DEFAULT_WAIT = 5 };
+enum { LEAST_READS = 64 << 10, MOST_READS = 1 << 30, DEFAULT_READS = 64 << 20 };
 #define MOST_DIRTY (UINT64_C(1) << 40)
 #define NO_NUMBER UINT64_MAX
 
@@ -34,6 +35,13 @@ static int read_bytes(const char *uri, const char *option, uint64_t low, uint64_
                 (sqlite3_int64)high, BLOCK);
 }
 
+/* Reads the option of a cache of reads, if it is there: a number of bytes, or 0 for none. */
+static int read_reads(const char *uri, uint64_t *value) {
+    const char *word = sqlite3_uri_parameter(uri, "read_cache");
+    if (word && !bytes_of(word)) *value = 0;
+    return *value ? read_bytes(uri, "read_cache", LEAST_READS, MOST_READS, value) : SQLITE_OK;
+}
+
 /* Reads an option of seconds, if it is there. */
 static int read_seconds(const char *uri, const char *option, double *value) {
     const char *word = sqlite3_uri_parameter(uri, option);
@@ -49,9 +57,10 @@ int read_options(const char *uri, const char **program, topzerad_options *option
     double wait = DEFAULT_WAIT;
     const char *word = uri ? sqlite3_uri_parameter(uri, "program") : NULL;
     *program = word ? word : "ztxg";
-    *options = (topzerad_options){0};
+    *options = (topzerad_options){.read_cache = DEFAULT_READS};
     int code = uri ? read_bytes(uri, "pool_cache", BLOCK, MOST_CACHE, &cache) : SQLITE_OK;
     if (!code && uri) code = read_bytes(uri, "dirty", LEAST_DIRTY, MOST_DIRTY, &options->dirty);
+    if (!code && uri) code = read_reads(uri, &options->read_cache);
     if (!code && uri) code = read_seconds(uri, "wait", &wait);
     if (!code && uri) code = read_seconds(uri, "timeout", &options->timeout);
     options->cache = (uint32_t)(cache / BLOCK);
