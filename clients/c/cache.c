@@ -16,8 +16,9 @@
  *    reads are asked of the process, which refuses them. A process that was killed may have had its file taken by
  *    another one. So a read from the cache counts only if the process has its end of the socket after it.
  * 5. What isn't asked for may be damaged. A read that was made longer, and is refused, is made again as it was asked.
- * 6. In a child of a fork no call gets this far. A thread isn't cancelled while it has the lock. Who has a pool's
- *    `lock` may take this one, and not the other way round. */
+ * 6. In a child of a fork the system has emptied the cache, and no call uses it: another thread of the parent may have
+ *    had the lock. A thread isn't cancelled while it has it. Who has a pool's `lock` may take this one, and not the
+ *    other way round. */
 #define _GNU_SOURCE
 #include "internal.h"
 
@@ -45,7 +46,7 @@ typedef struct {
 
 struct topzerad_cache {
     pthread_mutex_t lock;
-    size_t size;                     /* of all of this, in bytes */
+    size_t size;                     /* of all of this, in bytes; 0 in a child of a fork */
     uint32_t room, used;             /* how many units there may be, and how many there have been at once */
     uint32_t most_ahead, shift;
     uint32_t *chains;
@@ -298,6 +299,18 @@ topzerad_plan topzerad_cache_plan(topzerad_cache *cache, const topzerad_range *r
 
 /* Begin and end. */
 
+/* Lets a child of a fork find zeros in memory. So no read has to ask the system which process this is, unless the
+ * system can't do that. */
+#ifdef MADV_WIPEONFORK
+static int empty_in_children(void *memory, size_t size) { return madvise(memory, size, MADV_WIPEONFORK); }
+
+int topzerad_cache_is_usable(const topzerad *pool) { return pool->cache && pool->cache->size; }
+#else
+static int empty_in_children(void *memory, size_t size) { return !memory || !size; }
+
+int topzerad_cache_is_usable(const topzerad *pool) { return pool->cache && !topzerad_is_forked(pool); }
+#endif
+
 topzerad_cache *topzerad_cache_new(uint64_t size) {
     uint32_t bits = 4;
     while ((UINT64_C(1) << bits) < size / UNIT / 2) bits++;
@@ -305,6 +318,10 @@ topzerad_cache *topzerad_cache_new(uint64_t size) {
     size_t room = (size - entries - sizeof(entry)) / (UNIT + sizeof(entry));
     void *memory = mmap(NULL, size, PROT_READ | PROT_WRITE, MAP_PRIVATE | MAP_ANONYMOUS, -1, 0);
     if (memory == MAP_FAILED) return NULL;
+    if (empty_in_children(memory, size)) {
+        munmap(memory, size);
+        return NULL;
+    }
     topzerad_cache *cache = memory;
     pthread_mutex_init(&cache->lock, NULL);
     cache->size = size;
@@ -319,5 +336,5 @@ topzerad_cache *topzerad_cache_new(uint64_t size) {
 }
 
 void topzerad_cache_end(topzerad_cache *cache) {
-    if (cache) munmap(cache, cache->size);
+    if (cache && cache->size) munmap(cache, cache->size);
 }

@@ -48,15 +48,17 @@ int topzerad_take_in(topzerad *pool, void *to, size_t count, size_t *left);
 /* Whether the process still has its end. */
 int topzerad_is_connected(const topzerad *pool);
 
-/* cache.c: a cache of reads. The rule that keeps it true stands there. All functions but the first two
- * take its lock. */
+/* cache.c: a cache of reads. The rule that keeps it true stands there. All functions but the first three take its
+ * lock. */
 
 typedef struct topzerad_cache topzerad_cache;
 
 /* An empty cache of so many bytes, its own tables among them, or NULL with errno. They are taken as it fills. */
 topzerad_cache *topzerad_cache_new(uint64_t size);
-/* Gives a cache back, if it isn't NULL. */
+/* Gives a cache back, if it isn't NULL. In a child of a fork its memory has no bytes, and stays. */
 void topzerad_cache_end(topzerad_cache *cache);
+/* Whether the pool has a cache, and this process isn't a child of a fork. */
+int topzerad_cache_is_usable(const topzerad *pool);
 /* Reads all ranges that have no refusal, and sets their counts. Returns 0 if it doesn't have them all: nothing is read
  * then. */
 int topzerad_cache_read(topzerad_cache *cache, topzerad_range *ranges, size_t count);

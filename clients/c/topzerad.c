@@ -562,9 +562,9 @@ static int is_for_more(const call *calls, size_t count) {
     return 0;
 }
 
-/* Reads ranges, from the cache if it has them all. In a child of a fork no lock of it is taken. */
+/* Reads ranges, from the cache if it has them all. */
 static void read_ranges(topzerad *pool, topzerad_range *ranges, call *calls, size_t count) {
-    int keeps = pool->cache && !topzerad_is_forked(pool);
+    int keeps = topzerad_cache_is_usable(pool);
     if (keeps && topzerad_cache_read(pool->cache, ranges, count) && topzerad_is_connected(pool)) return;
     ask(pool, ranges, calls, count, keeps);
     if (is_for_more(calls, count)) ask(pool, ranges, calls, count, 0);
