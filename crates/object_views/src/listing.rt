@@ -6,7 +6,7 @@
 ghost use Rattle.std.specs.Prelude.{◌≡◌, ◌≢◌, ◌<◌, ℕ, IfErr, IfOk, IsTrue, Some};
 ghost use Rattle.base.specs.disk.Disk.{bytes_of};
 ghost use Rattle.base.specs.formats.Limits.{object_count};
-ghost use Rattle.base.specs.history.Contents.{Contents};
+ghost use Rattle.base.specs.history.Contents.{Contents as MountedContents};
 ghost use Rattle.base.specs.tree.Mount.{IsMounted, Mount, MountsTo};
 ghost use Rattle.device_model.specs.Reading.{OnlyReads};
 ghost use Rattle.trees.specs.EntryLists.{AreRising};
@@ -60,7 +60,7 @@ pub fn list_pool<D: SectorDevice>(alloc: Global, device: &mut D) -> Result<Liste
         → IfOk result (IsListingOf (bytes_of (D.disk device.old).now)) }
     ensures mounted { IsTrue D.keeps_model → (m : Mount)
         → IsMounted (bytes_of (D.disk device.old).now) m → IfOk result (IsListingOfMount m) }
-    ensures exact { IsTrue D.keeps_model → (contents : Contents)
+    ensures exact { IsTrue D.keeps_model → (contents : MountedContents)
         → MountsTo (bytes_of (D.disk device.old).now) contents
         → IfOk result (λ l. ListsContents l contents) }
     ensures form { IfOk result (λ l. AreRising 0 l.objects.items object_count) }
@@ -69,7 +69,7 @@ pub fn list_pool<D: SectorDevice>(alloc: Global, device: &mut D) -> Result<Liste
         (IsListingRefused D.SectorDevice device.old device.new) }
 
     // If the image mounts, no damage is found.
-    ensures sound { IsTrue D.keeps_model → (contents : Contents)
+    ensures sound { IsTrue D.keeps_model → (contents : MountedContents)
         → MountsTo (bytes_of (D.disk device.old).now) contents → IfErr result IsOfNoDamage }
 {
     let paths = find_paths(alloc, device)?;
@@ -80,7 +80,7 @@ impl PoolPaths {
     ghost use Rattle.std.specs.Prelude.{IfErr, IfOk, IsTrue};
     ghost use Rattle.base.specs.disk.Disk.{bytes_of};
     ghost use Rattle.base.specs.formats.Limits.{object_count};
-    ghost use Rattle.base.specs.history.Contents.{Contents};
+    ghost use Rattle.base.specs.history.Contents.{Contents as MountedContents};
     ghost use Rattle.base.specs.tree.Mount.{IsMounted, Mount, MountsTo};
     ghost use Rattle.device_model.specs.Reading.{OnlyReads};
     ghost use Rattle.log_replay.specs.Replays.{IsChainAllowed};
@@ -112,7 +112,7 @@ impl PoolPaths {
             → ArePathsOf (bytes_of (D.disk device.old).now) self.now → (m : Mount)
             → IsMounted (bytes_of (D.disk device.old).now) m → IfOk result (IsListingOfMount m) }
         ensures exact { IsTrue D.keeps_model
-            → ArePathsOf (bytes_of (D.disk device.old).now) self.now → (contents : Contents)
+            → ArePathsOf (bytes_of (D.disk device.old).now) self.now → (contents : MountedContents)
             → MountsTo (bytes_of (D.disk device.old).now) contents
             → IfOk result (λ l. ListsContents l contents) }
         ensures form { IfOk result (λ l. AreRising 0 l.objects.items object_count) }
@@ -122,7 +122,7 @@ impl PoolPaths {
 
         // If that image mounts, no damage is found.
         ensures sound { IsTrue D.keeps_model
-            → ArePathsOf (bytes_of (D.disk device.old).now) self.now → (contents : Contents)
+            → ArePathsOf (bytes_of (D.disk device.old).now) self.now → (contents : MountedContents)
             → MountsTo (bytes_of (D.disk device.old).now) contents → IfErr result IsOfNoDamage }
     {
         let uberblock = &self.found.uberblock;
