@@ -1,0 +1,4 @@
+pub mod Sides
+pub mod TreeBits
+pub mod PayloadBits
+pub mod PayloadEntries

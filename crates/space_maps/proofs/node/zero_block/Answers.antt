@@ -1,0 +1,7 @@
+use Rattle.std.proofs.Common.{refl}
+use Rattle.checked_blocks.specs.Sealing.{zeros}
+use Rattle.space_maps.proofs.node.zero_block.Goals as goal
+
+pub returns : goal.returns
+unfolding zeros
+returns c = refl

@@ -1,0 +1,4 @@
+pub mod Shapes
+pub mod Nodes
+pub mod Opening
+pub mod Laws
