@@ -1,4 +1,5 @@
 pub mod Shapes
 pub mod Nodes
 pub mod Opening
+pub mod Regions
 pub mod Laws

@@ -179,6 +179,7 @@ impl MapShape {
     pub fn side_at(self, node: u64, address: u64) -> Option<Side>
         requires { node < shape_of.node_count self }
         ensures side { IfSome result (λ side. address ≡ shape_of.side_address self node side) }
+        ensures on_device { IfSome result (λ side. IsOnDevice self address block_size) }
         ensures none { IfNone result ((side : Side) → address ≡ shape_of.side_address self node side → ⊥) }
     {
         if address == self.side_address(node, Side::First) {
