@@ -30,5 +30,5 @@ returns-in_err-open_node-clause-refused g c = λ keeps.
     rw (p.1, p.2) (inr (
       c.in_err-open_node.ensures.refused,
       node_missing image c.read.new.into c.args.frame.now c.args.shape (kind_number c.args.kind) c.guid.result c.args.node c.args.pointer.now at c.guid.ensures
-      (λ x. let no = c.in_err-open_node.ensures.ok.1 x in cc),
+          (λ x. let no = c.in_err-open_node.ensures.ok.1 x in cc),
     ))
