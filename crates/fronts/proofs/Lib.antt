@@ -1,0 +1,5 @@
+pub mod Fronts
+pub mod RisingSteps
+pub mod FrontsBetween
+pub mod OverCalls
+pub mod RisingCalls
