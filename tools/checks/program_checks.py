@@ -82,7 +82,6 @@ def all_checks():
         Check("hostile_rows"),
         Check("power_failures", needs=cc),
         Check("commands"),
-        Check("copied_pools"),
         Check("named_objects"),
         Check("path_reads", needs=cc),
         Check("installs", needs=[*cc, "make", "pkg-config"]),
