@@ -55,7 +55,7 @@ INSTALLED = $(BINDIR)/ztxg $(MANDIR)/man1/ztxg.1 $(MANDIR)/man3/topzerad.3 $(COM
 	$(INCLUDEDIR)/topzerad.h $(addprefix $(LIBDIR)/,libtopzerad.a libtopzerad.so $(SONAME) $(SHARED)) \
 	$(PKGCONFIGDIR)/topzerad.pc $(PLUGINDIR)/nbdkit-topzerad-plugin.so \
 	$(addprefix $(BINDIR)/,ztxg-hub ztxg-ctl) $(addprefix $(MANDIR)/man1/,ztxg-hub.1 ztxg-ctl.1) \
-	$(addprefix $(UNITDIR)/ztxg-hub@.,service socket) $(LIBDIR)/topzerad.so
+	$(addprefix $(UNITDIR)/,ztxg-hub@.service ztxg-hub@.socket ztxg-hub-metrics@.socket) $(LIBDIR)/topzerad.so
 
 all: $(ZTXG) library hub plugin extension
 
@@ -111,7 +111,8 @@ install: all
 		$(INSTALL) -m 644 docs/ztxg-hub.1 docs/ztxg-ctl.1 $(DESTDIR)$(MANDIR)/man1 && \
 		sed -e 's|@BINDIR@|$(BINDIR)|g' clients/hub/ztxg-hub@.service > $(HUB)/ztxg-hub@.service && \
 		$(INSTALL) -d $(DESTDIR)$(UNITDIR) && \
-		$(INSTALL) -m 644 $(HUB)/ztxg-hub@.service clients/hub/ztxg-hub@.socket $(DESTDIR)$(UNITDIR); fi
+		$(INSTALL) -m 644 $(HUB)/ztxg-hub@.service clients/hub/ztxg-hub@.socket clients/hub/ztxg-hub-metrics@.socket \
+			$(DESTDIR)$(UNITDIR); fi
 	[ ! -f $(PLUGIN) ] || $(INSTALL) -D -m 755 $(PLUGIN) $(DESTDIR)$(PLUGINDIR)/nbdkit-topzerad-plugin.so
 	[ ! -f $(EXTENSION) ] || $(INSTALL) -m 755 $(EXTENSION) $(DESTDIR)$(LIBDIR)/topzerad.so
 	[ -n "$(DESTDIR)" ] || ldconfig 2> /dev/null || :

@@ -183,7 +183,7 @@ static void read_answers(void) {
 static void open_pools(void) {
     static topzerad second;
     const topzerad_options all = {.dirty = 1 << 20, .cache = 1, .moment = 5, .wait = 1, .timeout = 60};
-    const topzerad_options bad[] = {{.dirty = 4095}, {.dirty = (UINT64_C(1) << 40) + 1}, {.cache = 4097},
+    const topzerad_options bad[] = {{.dirty = 4095}, {.dirty = (UINT64_C(1) << 40) + 1}, {.cache = 262145},
                                     {.wait = 86401}, {.timeout = 86401}, {.timeout = -0.5}};
     uint8_t memory[64];
     topzerad_tx tx;

@@ -6,7 +6,7 @@
 
 /* Frames: the bytes of their head and the most of all, their version, and their kinds. */
 enum { HEAD = 12, MAX_FRAME = 4194304, VERSION = 1 };
-enum { REQUESTS = 1, ANSWERS, REFUSED_FRAME, OPENED, UNOPENED, HOLDING, READING_ON };
+enum { REQUESTS = 1, ANSWERS, REFUSED_FRAME, OPENED, UNOPENED, HOLDING, READING_ON, ASK_NUMBERS, NUMBERS };
 
 enum { LAST_REFUSAL = 23 }; /* refusals of a pool have the numbers 1 to this one */
 

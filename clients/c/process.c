@@ -24,7 +24,7 @@ extern char **environ;
 #define SECOND UINT64_C(1000000000)
 #define GRACE SECOND /* how long a process may take to end once its pool failed to open */
 
-enum { MOST_SECONDS = 86400, LEAST_DIRTY = 4096, MOST_CACHE = 4096, LEAST_READS = 65536, MOST_READS = 1 << 30 };
+enum { MOST_SECONDS = 86400, LEAST_DIRTY = 4096, MOST_CACHE = 262144, LEAST_READS = 65536, MOST_READS = 1 << 30 };
 #define MOST_DIRTY (UINT64_C(1) << 40)
 
 enum { OPENING = 24 };      /* the bytes after the head of an opening, besides the cause */

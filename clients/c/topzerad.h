@@ -113,7 +113,7 @@ typedef struct topzerad {
 /* How a pool is opened or made. A field of 0 is the default. */
 typedef struct {
     uint64_t dirty;  /* of an open: the most bytes that unsynced transactions may be charged, 4,096 to 2^40 */
-    uint32_t cache;  /* of an open: the tree blocks of 4,096 bytes that stay in memory, 1 to 4,096 */
+    uint32_t cache;  /* of an open: the tree blocks of 4,096 bytes that stay in memory, 1 to 262,144 */
     uint64_t moment; /* the time in the uberblocks that are written, in seconds */
     uint32_t wait;   /* the seconds to wait for a file that another process has, up to 86,400 */
     int replace;     /* of a create: not 0 if it may replace a file that is there */

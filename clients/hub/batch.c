@@ -3,6 +3,8 @@
 
 #include <string.h>
 
+enum { LOOK_SIZE = 9, LOOK_ROOM = 80 }; /* the hub's own request, and the room for its answer */
+
 /* Takes the first of a line off. */
 static client *take_first(line *l) {
     client *c = l->first;
@@ -22,10 +24,11 @@ static int take_off(line *l, client *wanted) {
     return 0;
 }
 
-/* What a batch has so far. */
+/* What a batch has so far: its bytes, the room for its answer, its requests, and the frames of clients. */
 typedef struct {
     size_t size, room;
     uint32_t count;
+    uint64_t frames;
 } sizes;
 
 /* Adds a client's frame to the batch, with numbers of the hub's own. */
@@ -40,6 +43,7 @@ static void add_frame(hub *h, client *c, sizes *s) {
     s->size += c->size - HEAD;
     s->room += c->room;
     s->count += c->count;
+    s->frames++;
     c->stage = ASKED;
     hub_add_to_line(&h->asked, c);
 }
@@ -69,11 +73,32 @@ static void gather(hub *h, sizes *s) {
     }
 }
 
+/* Adds the hub's own request, if there is one and room for it. A frame that is asked by itself stays so. */
+static void add_look(hub *h, sizes *s) {
+    int is_alone = h->asked.first && h->asked.first->is_alone;
+    int is_room = s->size + LOOK_SIZE <= MAX_FRAME && s->room + LOOK_ROOM <= MAX_FRAME;
+    if (h->look != LOOK_WANTED || is_alone || !is_room) return;
+    s->size += hub_put_look(h->server.out + s->size, h->server.asked + s->count);
+    s->count++;
+    h->look = LOOK_ASKED;
+}
+
+/* Whether a batch is under way. */
+static int is_asking(const hub *h) { return h->asked.first || h->look == LOOK_ASKED; }
+
+static void count_batch(numbers *n, uint64_t frames) {
+    if (!frames) return; /* the hub asks for itself */
+    n->server_frames++;
+    if (frames > n->most_shared) n->most_shared = frames;
+}
+
 void hub_make_batch(hub *h) {
-    sizes s = {HEAD, HEAD, 0};
-    if (h->asked.first || h->server.is_gone || h->server.is_closing) return;
+    sizes s = {HEAD, HEAD, 0, 0};
+    if (is_asking(h) || h->server.is_gone || h->server.is_closing) return;
     gather(h, &s);
-    if (!h->asked.first) return;
+    add_look(h, &s);
+    if (!is_asking(h)) return;
+    count_batch(&h->numbers, s.frames);
     hub_put_head(h->server.out, s.size, REQUESTS, s.count);
     h->server.out_size = s.size;
     h->server.out_done = 0;
@@ -83,7 +108,7 @@ void hub_make_batch(hub *h) {
 
 /* Puts the client's numbers in the place of the hub's in answers of so many bytes. Returns the bytes of its answers, or
  * 0 if they aren't its answers. */
-static size_t restore_numbers(hub *h, client *c, uint8_t *answers, size_t most) {
+static size_t restore_numbers(hub *h, client *c, uint8_t *answers, size_t most, uint64_t now) {
     const uint8_t *request = c->bytes + HEAD;
     size_t done = 0;
     int is_full = 0;
@@ -92,6 +117,7 @@ static size_t restore_numbers(hub *h, client *c, uint8_t *answers, size_t most) 
         size_t size = hub_answer_size(answer, most - done);
         if (!size || get(answer, 8) != h->server.asked) return 0;
         is_full = hub_is_full_read(request, answer);
+        hub_count_answer(h, request, answer, now - c->begun);
         memcpy(answer, request, 8);
         request += hub_request_size(request);
         done += size;
@@ -107,12 +133,21 @@ static void end_frame(hub *h, client *c) {
     if (c->is_gone) hub_close_client(h, c, NULL);
 }
 
+/* Takes the answer to the hub's own request, which is the last one. */
+static int take_look(hub *h, const uint8_t *answer, size_t left) {
+    if (hub_answer_size(answer, left) != left || !left || get(answer, 8) != h->server.asked) return -1;
+    h->server.asked++;
+    hub_end_look(h, !hub_take_look(h, answer));
+    return 0;
+}
+
 static int hand_out(hub *h, size_t size) {
     uint8_t *answers = h->server.in + HEAD;
     size_t left = size - HEAD;
+    uint64_t now = topzerad_now();
     while (h->asked.first) {
         client *c = take_first(&h->asked);
-        size_t own = restore_numbers(h, c, answers, left);
+        size_t own = restore_numbers(h, c, answers, left, now);
         if (c->count && !own) return -1;
         hub_put_head(c->bytes, HEAD + own, ANSWERS, c->count);
         memcpy(c->bytes + HEAD, answers, own);
@@ -121,6 +156,7 @@ static int hand_out(hub *h, size_t size) {
         end_frame(h, c);
         if (c->stage == ASKED) hub_answer(h, c, HEAD + own);
     }
+    if (h->look == LOOK_ASKED) return take_look(h, answers, left);
     return left ? -1 : 0;
 }
 
@@ -141,8 +177,14 @@ static void ask_again(hub *h) {
 /* The server refused the batch, so nothing of it was made. A turn is held again once it was asked again. */
 static void take_refusal(hub *h, uint32_t number) {
     client *c = h->asked.first;
+    int has_look = h->look == LOOK_ASKED;
     h->holder = NULL;
-    if (c->next) {
+    if (!c) {
+        hub_end_look(h, 0);
+        return;
+    }
+    if (has_look) h->look = LOOK_WANTED;
+    if (c->next || has_look) {
         ask_again(h);
         return;
     }
@@ -157,7 +199,7 @@ static uint32_t asked_count(const hub *h) { return (uint32_t)get(h->server.out +
 int hub_take_answer(hub *h) {
     const uint8_t *head = h->server.in;
     uint64_t size = get(head, 4), kind = get(head + 6, 2), number = get(head + 8, 4);
-    if (get(head + 4, 2) != VERSION || !h->asked.first || h->server.out_done < h->server.out_size) return -1;
+    if (get(head + 4, 2) != VERSION || !is_asking(h) || h->server.out_done < h->server.out_size) return -1;
     if (kind == REFUSED_FRAME && size == HEAD) {
         take_refusal(h, (uint32_t)number);
         return 0;

@@ -13,9 +13,11 @@ import sys
 import threading
 import time
 
-from hubs import HOLDING, READING_ON, TOP, Client, Fault, Hub, Tests, want, wait_until
+from hubs import HOLDING, READING_ON, TOP, Client, Fault, Hub, Tests, processor_time, want, wait_until
 import hostile
 import kills
+import metrics
+import viewers
 
 from tools.model.frames import Server, Unopened  # noqa: E402
 from topzerad import Ended, FileForbidden, FileInUse, FileMissing, Pool, create, set_length, write  # noqa: E402
@@ -185,11 +187,6 @@ def a_refused_batch(tests):
     want(clients[3].answers() == 1, "a frame that is refused alone isn't refused")
     want(clients[3].one("flush")[0] == 8, "its client isn't answered any more")
     hub.end()
-
-
-def processor_time(process):
-    fields = pathlib.Path(f"/proc/{process}/stat").read_text().rpartition(")")[2].split()
-    return (int(fields[11]) + int(fields[12])) / os.sysconf("SC_CLK_TCK")
 
 
 def a_server_that_stops(tests):
@@ -477,6 +474,8 @@ def command_lines(tests):
         (["a", "--mode", "8"], 2, "0 to 777"),
         (["a", "--user", "no such one"], 2, "there is no such user"),
         (["a", "--what"], 2, "unrecognized option"),
+        (["file", "--socket", "s", "--metrics", "file"], 3, "is no socket"),
+        (["file", "--socket", "s", "--metrics", "x" * 108], 3, "name too long"),
         (["no such file", "--socket", "s"], 3, "cannot use no such file"),
         (["file", "--socket", "s"], 1, "refused 8"),
         (["file", "--socket", "no/folder/s", "--program", "/none"], 3, "can't be started"),
@@ -527,7 +526,7 @@ def looks_and_changes(tests):
     ctl("check", status=2, errors="check: no frame asks for it: end the hub, and run ztxg check")
     want(ctl("status").splitlines()[:2] == ["name tank", "guid 77"], "status")
     names = [line.split()[0] for line in ctl("stat").splitlines()]
-    want(names == ["synced", "syncing", "middle", "open", "dirty", "free", "available"], "stat prints", names)
+    want(names[:7] == ["synced", "syncing", "middle", "open", "dirty", "free", "available"], "stat prints", names)
     with Pool(socket=hub.path) as pool:
         pool.transact([set_length(0, 1)])
     ctl("ls", out="0 1\n1 11\n2 200000\n")
@@ -544,10 +543,11 @@ def looks_and_changes(tests):
 
 
 def refusal_names(tests):
-    """The names that ztxg-ctl prints are those of the page of formats."""
+    """The names of refusals are those of the page of formats."""
     from tools.repository.client_texts import document_names
 
-    source = (TOP / "clients/hub/ctl.c").read_text().partition("names[] = {")[2].partition("};")[0]
+    source = (TOP / "clients/hub/numbers.c").read_text()
+    source = source.partition("refusal_names[LAST_REFUSAL + 1] = {")[2].partition("};")[0]
     found = [word.strip(' "\n') for word in source.split(",")][1:-1]
     wanted = document_names((TOP / "docs/FORMATS.md").read_text())
     want(found == [wanted[number] for number in range(1, 24)], "the names are", found)
@@ -605,6 +605,8 @@ TESTS = [
     command_lines,
     looks_and_changes,
     refusal_names,
+    *metrics.TESTS,
+    *viewers.TESTS,
     hostile.chance,
     kills.kills,
     the_library_in_c,

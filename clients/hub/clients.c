@@ -36,6 +36,8 @@ void hub_add_client(hub *h, client *c, int socket, uid_t user, pid_t process) {
     c->process = process;
     c->is_gone = c->is_last = c->is_alone = c->holds = 0;
     h->count++;
+    h->numbers.connections++;
+    if (h->count > h->numbers.most_clients) h->numbers.most_clients = h->count;
     memcpy(c->bytes, h->server.opening, OPENING_SIZE);
     hub_answer(h, c, OPENING_SIZE);
 }
@@ -74,6 +76,7 @@ void hub_answer(hub *h, client *c, size_t size) {
 }
 
 void hub_refuse_frame(hub *h, client *c, uint32_t number) {
+    if (number >= 1 && number <= FRAME_REFUSALS) h->numbers.refused_frames[number - 1]++;
     hub_put_head(c->bytes, HEAD, REFUSED_FRAME, number);
     hub_answer(h, c, HEAD);
 }
@@ -103,6 +106,11 @@ static void refuse_last(hub *h, client *c, const char *cause) {
     hub_refuse_frame(h, c, CUT_OFF);
 }
 
+static void answer_numbers(hub *h, client *c) {
+    hub_put_numbers(c->bytes, hub_tell_numbers(h));
+    hub_answer(h, c, NUMBERS_SIZE);
+}
+
 /* A frame is there. A refused one ends the turn that its client holds. */
 static void take_frame(hub *h, client *c) {
     uint32_t refusal = hub_check_frame(c);
@@ -111,8 +119,14 @@ static void take_frame(hub *h, client *c) {
         hub_refuse_frame(h, c, refusal);
         return;
     }
+    if (hub_asks_for_numbers(c)) {
+        answer_numbers(h, c);
+        return;
+    }
+    h->numbers.frames++;
     c->stage = WAITING;
     c->deadline = NO_DEADLINE;
+    c->begun = topzerad_now();
     hub_add_to_line(&h->waiting, c);
 }
 

@@ -1,7 +1,7 @@
 /* ztxg-ctl: looks at a pool that a hub has, and changes it. Texts and statuses are those of `ztxg`
  * (docs/COMMANDS.md). */
 #define _GNU_SOURCE
-#include "../c/topzerad.h"
+#include "ctl.h"
 
 #include <errno.h>
 #include <getopt.h>
@@ -11,9 +11,8 @@
 #include <stdlib.h>
 #include <string.h>
 
-enum { DONE = 0, REFUSED = 1, BAD_LINE = 2, UNUSABLE = 3 };
-enum { RECORD = 4032, PIECE = 16 * RECORD, POINTED = 338688, TRIES = 8, FIRST_ROOM = PIECE + 128, QUOTED = 1200 };
-enum { LENGTH = 256, OFFSET, JSON, TIMEOUT };
+enum { POINTED = 338688, TRIES = 8, QUOTED = 1200 };
+enum { LENGTH = 256, OFFSET, JSON, TIMEOUT, WATCH };
 
 static const char usage[] =
     "Usage: ztxg-ctl SOCKET COMMAND\n"
@@ -25,7 +24,7 @@ static const char usage[] =
     "  put OBJECT [--offset O]                    reads an object's bytes\n"
     "  rm OBJECT                                  removes an object\n"
     "  status                                     prints what pool it is\n"
-    "  stat                                       prints its groups and what is charged and free\n"
+    "  stat [--json] [--watch SECONDS]            prints the numbers of the pool and of the hub\n"
     "\n"
     "OBJECT is a number, or @ and a name. Each command takes\n"
     "  --timeout S        the seconds that the hub may take for an answer, any time if not given\n"
@@ -36,38 +35,16 @@ static const struct option known[] = {
     {"length", required_argument, NULL, LENGTH},   {"offset", required_argument, NULL, OFFSET},
     {"json", no_argument, NULL, JSON},             {"long", no_argument, NULL, 'l'},
     {"timeout", required_argument, NULL, TIMEOUT}, {"quiet", no_argument, NULL, 'q'},
-    {"help", no_argument, NULL, 'h'},              {"version", no_argument, NULL, 'V'},
-    {NULL, 0, NULL, 0},
+    {"watch", required_argument, NULL, WATCH},     {"help", no_argument, NULL, 'h'},
+    {"version", no_argument, NULL, 'V'},           {NULL, 0, NULL, 0},
 };
-
-/* The names of refusals (docs/FORMATS.md, "Refusals"). */
-static const char *const names[] = {
-    "",         "NoMemory",  "Read",      "Write",  "Flush",     "Suspended",         "NoPool",   "Damaged",
-    "BadGeometry", "NoObject", "Exists",  "BadRange", "OutOfPlan", "NotLocked",       "Busy",     "LockInUse",
-    "NoSpace",  "Throttled", "TooLarge",  "NoSuchTransaction", "NotReady", "NoSuchLock", "TooMany", "NoLogSpace",
-};
-
-/* A run, and what its command line says. */
-typedef struct {
-    topzerad pool;
-    const char *socket, *command, *object, *name;
-    uint32_t number;
-    uint64_t offset, length;
-    int has_offset, has_length, is_long, is_json, is_quiet;
-    double timeout;
-    topzerad_listed listed[TOPZERAD_OBJECTS];
-    topzerad_named named[TOPZERAD_OBJECTS];
-    uint8_t content[TOPZERAD_MAX_LENGTH + 1], first[FIRST_ROOM];
-    uint64_t committed;
-    unsigned transactions;
-} run;
 
 static run the_run;
 
 /* Refusals. */
 
-/* Prints a line on standard error. There is no one to tell if that can't be written. */
-__attribute__((format(printf, 1, 2))) static void tell(const char *format, ...) {
+/* There is no one to tell if that can't be written. */
+void ctl_tell(const char *format, ...) {
     va_list arguments;
     va_start(arguments, format);
     (void)fputs("ztxg-ctl: ", stderr);
@@ -76,18 +53,18 @@ __attribute__((format(printf, 1, 2))) static void tell(const char *format, ...) 
     va_end(arguments);
 }
 
-static int refused(const run *r, int refusal, const char *cause) {
+int ctl_refused(const run *r, int refusal, const char *cause) {
     uint64_t kind, address;
-    if (refusal < 1 || (size_t)refusal >= sizeof names / sizeof *names) {
-        tell("%s", topzerad_text(refusal));
+    if (refusal < 1 || refusal > LAST_REFUSAL) {
+        ctl_tell("%s", topzerad_text(refusal));
         return UNUSABLE;
     }
     topzerad_damage(&kind, &address);
     if (refusal == TOPZERAD_DAMAGED)
-        tell("refused %d %s %" PRIu64 " %" PRIu64, refusal, names[refusal], kind, address);
+        ctl_tell("refused %d %s %" PRIu64 " %" PRIu64, refusal, hub_refusal_names[refusal], kind, address);
     else
-        tell("refused %d %s", refusal, names[refusal]);
-    if (!r->is_quiet) tell("cause: %s", cause ? cause : topzerad_text(refusal));
+        ctl_tell("refused %d %s", refusal, hub_refusal_names[refusal]);
+    if (!r->is_quiet) ctl_tell("cause: %s", cause ? cause : topzerad_text(refusal));
     return REFUSED;
 }
 
@@ -95,7 +72,7 @@ static int refused(const run *r, int refusal, const char *cause) {
 static int above(const run *r, const char *what, uint64_t number, const char *limit) {
     char cause[128];
     (void)snprintf(cause, sizeof cause, "%s %" PRIu64 ": %s", what, number, limit);
-    return refused(r, TOPZERAD_BAD_RANGE, cause);
+    return ctl_refused(r, TOPZERAD_BAD_RANGE, cause);
 }
 
 /* Puts a name in quotes, as far as there is room. A `"`, a `\\` and a control character can be told from others. */
@@ -121,18 +98,18 @@ static int refused_by_name(run *r, int refusal) {
     quote(quoted, r->name);
     if (refusal == TOPZERAD_NO_OBJECT) {
         (void)snprintf(cause, sizeof cause, "no object has the name %s", quoted);
-        return refused(r, refusal, cause);
+        return ctl_refused(r, refusal, cause);
     }
-    if (refusal == TOPZERAD_TOO_MANY) return refused(r, refusal, "no number is left for an object");
-    if (refusal != TOPZERAD_BAD_RANGE) return refused(r, refusal, NULL);
+    if (refusal == TOPZERAD_TOO_MANY) return ctl_refused(r, refusal, "no number is left for an object");
+    if (refusal != TOPZERAD_BAD_RANGE) return ctl_refused(r, refusal, NULL);
     /* Another name is refused so, too, if that is for object 0. */
     if (topzerad_find_named(&r->pool, "-", &r->number) == TOPZERAD_BAD_RANGE)
-        return refused(r, refusal, "object 0 is no table of names");
+        return ctl_refused(r, refusal, "object 0 is no table of names");
     (void)snprintf(cause, sizeof cause, "object name %s: 1 to 254 bytes of UTF-8, no control characters, no /", quoted);
-    return refused(r, refusal, cause);
+    return ctl_refused(r, refusal, cause);
 }
 
-static int output_failed(void) { return fflush(stdout) || ferror(stdout) ? UNUSABLE : DONE; }
+int ctl_output_failed(void) { return fflush(stdout) || ferror(stdout) ? UNUSABLE : DONE; }
 
 /* Objects. */
 
@@ -171,12 +148,12 @@ static int list(run *r) {
         refusal = topzerad_names(&r->pool, 0, r->named, TOPZERAD_OBJECTS, &named_count);
         if (refusal == TOPZERAD_BAD_RANGE) refusal = 0; /* object 0 has no names */
     }
-    if (refusal) return refused(r, refusal, NULL);
+    if (refusal) return ctl_refused(r, refusal, NULL);
     if (r->is_json)
         print_json(r, count);
     else
         print_lines(r, count, named_count);
-    return output_failed();
+    return ctl_output_failed();
 }
 
 /* Looks a name up. Returns 0 or a status. */
@@ -194,9 +171,9 @@ static int get_object(run *r) {
     uint64_t room = TOPZERAD_MAX_LENGTH - r->offset;
     uint64_t high = r->offset + (r->has_length && r->length < room ? r->length : room);
     int refusal = topzerad_read(&r->pool, r->number, r->offset, high, r->content, &count);
-    if (refusal) return refused(r, refusal, NULL);
+    if (refusal) return ctl_refused(r, refusal, NULL);
     if (fwrite(r->content, 1, count, stdout) != count) return UNUSABLE;
-    return output_failed();
+    return ctl_output_failed();
 }
 
 static int remove_object(run *r) {
@@ -210,10 +187,10 @@ static int remove_object(run *r) {
         topzerad_tx_start(&tx, r->first, sizeof r->first);
         refusal = topzerad_tx_remove(&tx, r->number);
         if (!refusal) refusal = topzerad_transact_durably(&r->pool, &tx, NULL, NULL);
-        if (refusal) return refused(r, refusal, NULL);
+        if (refusal) return ctl_refused(r, refusal, NULL);
     }
     printf("removed %" PRIu32 "\n", r->number);
-    return output_failed();
+    return ctl_output_failed();
 }
 
 /* Put. */
@@ -280,9 +257,9 @@ static int find_or_make(run *r) {
 static int put_numbered(run *r, size_t count) {
     int refusal = put_pieces(r, count);
     if (!refusal) return DONE;
-    int status = refused(r, refusal, NULL);
+    int status = ctl_refused(r, refusal, NULL);
     if (r->transactions)
-        tell("committed %" PRIu64 " bytes in %u transactions", r->committed, r->transactions);
+        ctl_tell("committed %" PRIu64 " bytes in %u transactions", r->committed, r->transactions);
     return status;
 }
 
@@ -290,12 +267,12 @@ static int put_object(run *r) {
     size_t count = fread(r->content, 1, sizeof r->content, stdin);
     if (ferror(stdin)) {
         int failed = errno;
-        tell("cannot use -");
-        tell("cause: %s (os error %d)", strerror(failed), failed);
+        ctl_tell("cannot use -");
+        ctl_tell("cause: %s (os error %d)", strerror(failed), failed);
         return UNUSABLE;
     }
     if (count > TOPZERAD_MAX_LENGTH)
-        return refused(r, TOPZERAD_BAD_RANGE, "the input has more bytes than an object may have: 28449792");
+        return ctl_refused(r, TOPZERAD_BAD_RANGE, "the input has more bytes than an object may have: 28449792");
     if (r->offset >= TOPZERAD_MAX_LENGTH) return above(r, "offset", r->offset, "offsets go to 28449791");
     if (r->offset + count > TOPZERAD_MAX_LENGTH)
         return above(r, "the bytes end at", r->offset + count, "an object has at most 28449792");
@@ -307,7 +284,7 @@ static int put_object(run *r) {
     if (!status && (!r->name || r->has_offset)) status = put_numbered(r, count);
     if (status) return status;
     printf("put %zu bytes in %u transactions\n", count, r->transactions);
-    return output_failed();
+    return ctl_output_failed();
 }
 
 /* The pool. */
@@ -319,45 +296,17 @@ static int print_status(run *r) {
     int refusal = topzerad_name(&r->pool, name);
     if (!refusal) refusal = topzerad_state(&r->pool, &s);
     if (!refusal) refusal = topzerad_objects(&r->pool, 0, TOPZERAD_OBJECTS, r->listed, &count);
-    if (refusal) return refused(r, refusal, NULL);
+    if (refusal) return ctl_refused(r, refusal, NULL);
     uint64_t guid = topzerad_opened(&r->pool).guid;
     printf("name %s\nguid %" PRIu64 "\ngroup %" PRIu64 "\nobjects %zu\n", name, guid, s.synced, count);
-    return output_failed();
-}
-
-static int print_stat(run *r) {
-    topzerad_status s;
-    int refusal = topzerad_state(&r->pool, &s);
-    if (refusal) return refused(r, refusal, NULL);
-    printf("synced %" PRIu64 "\nsyncing %" PRIu64 "\nmiddle %" PRIu64 "\nopen %" PRIu64 "\ndirty %" PRIu64
-           "\nfree %" PRIu64 "\navailable %" PRIu64 "\n",
-           s.synced, s.syncing, s.middle, s.open, s.dirty, s.free, s.available);
-    return output_failed();
+    return ctl_output_failed();
 }
 
 /* The command line. */
 
 static int wrong(const char *word, const char *wanted) {
-    tell("%s: %s", word, wanted);
+    ctl_tell("%s: %s", word, wanted);
     return BAD_LINE;
-}
-
-/* Reads a number of digits, and maybe K, M, G or T after them. Returns 0, or -1 if it is none. */
-static int read_bytes(const char *word, uint64_t *number) {
-    static const char letters[] = "KMGT";
-    char *end;
-    if (*word < '0' || *word > '9') return -1;
-    errno = 0;
-    *number = strtoull(word, &end, 10);
-    if (errno) return -1;
-    if (!*end) return 0;
-    const char *letter = strchr(letters, *end);
-    if (!letter || end[1]) return -1;
-    for (long i = letter - letters; i >= 0; i--) {
-        if (*number > UINT64_MAX / 1024) return -1;
-        *number *= 1024;
-    }
-    return 0;
 }
 
 static int read_object(run *r) {
@@ -374,24 +323,29 @@ static int read_object(run *r) {
     return -1;
 }
 
+/* Reads seconds. Returns -1, or the status to end with. */
+static int read_seconds(const char *word, double *seconds) {
+    char *end;
+    *seconds = strtod(word, &end);
+    return *end || !*word || !(*seconds > 0 && *seconds <= 86400) ? wrong(word, "above 0, up to 86400") : -1;
+}
+
 static int read_option(run *r, int option, const char *word) {
     static const char bytes[] = "bytes below 2^64 in digits, with K, M, G or T after them for powers of 1024";
-    char *end;
     switch (option) {
     case OFFSET:
         r->has_offset = 1;
-        return read_bytes(word, &r->offset) ? wrong(word, bytes) : -1;
+        return hub_read_bytes(word, &r->offset) ? wrong(word, bytes) : -1;
     case LENGTH:
         r->has_length = 1;
-        return read_bytes(word, &r->length) ? wrong(word, bytes) : -1;
-    case TIMEOUT:
-        r->timeout = strtod(word, &end);
-        return *end || !*word || !(r->timeout > 0 && r->timeout <= 86400) ? wrong(word, "above 0, up to 86400") : -1;
+        return hub_read_bytes(word, &r->length) ? wrong(word, bytes) : -1;
+    case TIMEOUT: return read_seconds(word, &r->timeout);
+    case WATCH: return read_seconds(word, &r->watch);
     case JSON: r->is_json = 1; return -1;
     case 'l': r->is_long = 1; return -1;
     case 'q': r->is_quiet = 1; return -1;
-    case 'h': return fputs(usage, stdout) < 0 ? UNUSABLE : output_failed();
-    case 'V': return puts("ztxg-ctl " TOPZERAD_VERSION) < 0 ? UNUSABLE : output_failed();
+    case 'h': return fputs(usage, stdout) < 0 ? UNUSABLE : ctl_output_failed();
+    case 'V': return puts("ztxg-ctl " TOPZERAD_VERSION) < 0 ? UNUSABLE : ctl_output_failed();
     default: return BAD_LINE;
     }
 }
@@ -400,12 +354,16 @@ static int read_option(run *r, int option, const char *word) {
 typedef struct {
     const char *name;
     int (*make)(run *r);
-    int has_object, takes_offset, takes_length, takes_form;
+    int has_object, takes_offset, takes_length, takes_json, takes_long, takes_watch;
 } command;
 
 static const command commands[] = {
-    {"ls", list, 0, 0, 0, 1},         {"get", get_object, 1, 1, 1, 0},    {"put", put_object, 1, 1, 0, 0},
-    {"rm", remove_object, 1, 0, 0, 0}, {"status", print_status, 0, 0, 0, 0}, {"stat", print_stat, 0, 0, 0, 0},
+    {.name = "ls", .make = list, .takes_json = 1, .takes_long = 1},
+    {.name = "get", .make = get_object, .has_object = 1, .takes_offset = 1, .takes_length = 1},
+    {.name = "put", .make = put_object, .has_object = 1, .takes_offset = 1},
+    {.name = "rm", .make = remove_object, .has_object = 1},
+    {.name = "status", .make = print_status},
+    {.name = "stat", .make = ctl_print_stat, .takes_json = 1, .takes_watch = 1},
 };
 
 static const command *find_command(const char *name) {
@@ -417,7 +375,7 @@ static const command *find_command(const char *name) {
 /* Whether the command takes all options that were given. */
 static int takes_options(const run *r, const command *c) {
     return (c->takes_offset || !r->has_offset) && (c->takes_length || !r->has_length)
-           && (c->takes_form || (!r->is_long && !r->is_json));
+           && (c->takes_json || !r->is_json) && (c->takes_long || !r->is_long) && (c->takes_watch || !(r->watch > 0));
 }
 
 /* Reads the command line, and sets the command. Returns -1, or the status to end with. */
@@ -445,8 +403,8 @@ static int open_pool(run *r) {
     const topzerad_options options = {.timeout = r->timeout};
     int refusal = topzerad_open_socket(&r->pool, r->socket, &options);
     if (!refusal) return 0;
-    tell("cannot use %s", r->socket);
-    if (!r->is_quiet) tell("cause: %s", topzerad_cause(&r->pool));
+    ctl_tell("cannot use %s", r->socket);
+    if (!r->is_quiet) ctl_tell("cause: %s", topzerad_cause(&r->pool));
     return UNUSABLE;
 }
 
@@ -461,5 +419,5 @@ int main(int count, char **words) {
     if (status) return status;
     status = c->make(r);
     int refusal = topzerad_close(&r->pool);
-    return status || !refusal ? status : refused(r, refusal, NULL);
+    return status || !refusal ? status : ctl_refused(r, refusal, NULL);
 }

@@ -1,4 +1,5 @@
-/* The frames of clients (docs/FRAMES.md), checked as the server does, and the sizes of answers. */
+/* The frames of clients (docs/FRAMES.md), checked as the server does, the sizes of answers, and what is counted of
+ * both. */
 #include "hub.h"
 
 #include <string.h>
@@ -25,13 +26,6 @@ static int take(cursor *from, size_t count) {
 
 static uint64_t least(uint64_t one, uint64_t other) { return one < other ? one : other; }
 
-void hub_put_head(uint8_t *to, size_t size, int kind, uint32_t number) {
-    put(to, size, 4);
-    put(to + 4, VERSION, 2);
-    put(to + 6, (uint64_t)kind, 2);
-    put(to + 8, number, 4);
-}
-
 /* Records. */
 
 static int is_letter(uint8_t byte) { return (byte >= 'A' && byte <= 'Z') || (byte >= 'a' && byte <= 'z'); }
@@ -53,13 +47,15 @@ static int take_name(cursor *from) {
     return take(from, count) || !is_name(start + 4, count) ? -1 : 0;
 }
 
+/* The bytes of operations before those that they write, or those of a name. */
+static const size_t operation_sizes[] = {[CREATE] = 5, [REMOVE] = 5, [WRITE] = 17, [SET_LENGTH] = 13, [SET_NAME] = 5};
+
 /* Takes an operation that is within its limits. */
 static int take_operation(cursor *from) {
-    static const size_t sizes[] = {[CREATE] = 5, [REMOVE] = 5, [WRITE] = 17, [SET_LENGTH] = 13};
     const uint8_t *op = from->bytes;
     if (!from->left || op[0] < CREATE || op[0] > SET_NAME) return -1;
     if (op[0] == SET_NAME) return take(from, 1) || take_name(from) ? -1 : 0;
-    if (take(from, sizes[op[0]]) || get(op + 1, 4) >= TOPZERAD_OBJECTS) return -1;
+    if (take(from, operation_sizes[op[0]]) || get(op + 1, 4) >= TOPZERAD_OBJECTS) return -1;
     if (op[0] == SET_LENGTH) return get(op + 5, 8) > TOPZERAD_MAX_LENGTH ? -1 : 0;
     if (op[0] != WRITE) return 0;
     uint64_t offset = get(op + 5, 8), count = get(op + 13, 4);
@@ -121,10 +117,13 @@ static uint32_t take_request(cursor *from) {
     return take(from, fields_of(call)) ? CUT_OFF : 0;
 }
 
+int hub_asks_for_numbers(const client *c) { return get(c->bytes + 6, 2) == ASK_NUMBERS; }
+
 uint32_t hub_check_frame(client *c) {
     cursor from = {c->bytes + HEAD, c->size - HEAD};
     uint64_t kind = get(c->bytes + 6, 2), count = get(c->bytes + 8, 4), room = HEAD;
     if (get(c->bytes + 4, 2) != VERSION) return BAD_VERSION;
+    if (kind == ASK_NUMBERS) return count ? CUT_OFF : from.left ? SURPLUS : 0;
     if (kind != REQUESTS && kind != HOLDING && kind != READING_ON) return BAD_KIND;
     for (uint64_t left = count; left; left--) {
         const uint8_t *request = from.bytes;
@@ -158,4 +157,60 @@ size_t hub_answer_size(const uint8_t *answer, size_t most) {
 int hub_is_full_read(const uint8_t *request, const uint8_t *answer) {
     const uint8_t *range = request + START + 4;
     return request[8] == READ && answer[8] == READ && get(answer + START, 4) == get(range + 8, 8) - get(range, 8);
+}
+
+/* Counting. */
+
+/* The bytes that the writes of a log record have. */
+static uint64_t written_bytes(const uint8_t *record) {
+    const uint8_t *op = record + RECORD_HEAD;
+    uint64_t written = 0;
+    for (uint64_t left = get(record + 20, 2); left; left--) {
+        uint64_t count = op[0] == WRITE ? get(op + 13, 4) : op[0] == SET_NAME ? get(op + 1, 4) : 0;
+        if (op[0] == WRITE) written += count;
+        op += operation_sizes[op[0]] + count;
+    }
+    return written;
+}
+
+/* Counts a transaction that took place. */
+static void count_commit(numbers *n, const uint8_t *request, uint8_t came) {
+    if (came == TRANSACT) n->commits++;
+    if (came == TRANSACT_DURABLY) n->durable_commits++;
+    if (came == NOT_DURABLE) n->undurable_commits++;
+    n->written_bytes += written_bytes(request + START);
+}
+
+void hub_count_answer(hub *h, const uint8_t *request, const uint8_t *answer, uint64_t took) {
+    numbers *n = &h->numbers;
+    uint8_t call = request[8], came = answer[8];
+    const uint8_t *fields = answer + START;
+    n->requests[call - 1]++;
+    if (call == READ || is_transaction(call))
+        hub_count_time(&n->times[call == READ ? TIMED_READ : call == TRANSACT ? TIMED_COMMIT : TIMED_DURABLE], took);
+    if (!came && fields[0] >= 1 && fields[0] <= LAST_REFUSAL)
+        n->refused_requests[fields[0] - 1]++;
+    else if (is_transaction(call) && (is_transaction(came) || came == NOT_DURABLE))
+        count_commit(n, request, came);
+    else if (call == READ && came == READ)
+        n->read_bytes += get(fields, 4);
+    else if (call == came && (call == STATUS || call == SYNC))
+        hub_notice_synced(h, get(fields, 8));
+}
+
+/* Looks at the pool. */
+
+size_t hub_put_look(uint8_t *to, uint64_t number) {
+    put(to, number, 8);
+    to[8] = STATUS;
+    return START;
+}
+
+int hub_take_look(hub *h, const uint8_t *answer) {
+    const uint8_t *fields = answer + START;
+    if (answer[8] != STATUS) return -1;
+    h->pool = (topzerad_status){get(fields, 8),      get(fields + 8, 8),  get(fields + 16, 8), get(fields + 24, 8),
+                                get(fields + 32, 8), get(fields + 40, 8), get(fields + 48, 8)};
+    hub_notice_synced(h, h->pool.synced);
+    return 0;
 }

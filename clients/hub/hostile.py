@@ -43,7 +43,7 @@ def frames():
     """Frames that are refused, with a true length, and some that are not."""
     flush = requests_frame([Request(1, "flush", ())])
     yield from (framed(flush[HEAD:], version=version) for version in (0, 2, 65_535))
-    yield from (framed(flush[HEAD:], kind=kind) for kind in (0, 2, 3, 4, 5, 8, 65_535))
+    yield from (framed(flush[HEAD:], kind=kind) for kind in (0, 2, 3, 4, 5, 9, 10, 65_535))
     yield from (framed(struct.pack("<QB", 1, call)) for call in (0, 11, 255))
     yield from (framed(flush[HEAD:][:size]) for size in (0, 1, 8))
     yield from (framed(struct.pack("<QB", 1, call) + b"\0") for call in (3, 4, 5, 7))

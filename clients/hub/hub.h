@@ -1,8 +1,8 @@
 /* hub.h: what the files of ztxg-hub share.
  *
- * One thread waits by poll for the listening socket, the server and the clients. A client has one frame at a time: it
- * is read whole, waits, is asked, and its answer is written whole before the next one is read. So each client has one
- * buffer, and all memory is taken at the start.
+ * One thread waits by poll for the listening sockets, the server, the clients and the viewers of metrics. A client has
+ * one frame at a time: it is read whole, waits, is asked, and its answer is written whole before the next one is read.
+ * So each client has one buffer, and all memory is taken at the start.
  *
  * 1. Frames that wait go to the server in the order in which they became whole, as many as fit one frame of its own.
  *    What gathers while the server works goes in the next one, so all share a flush.
@@ -11,11 +11,13 @@
  *    one, for HOLD at most. One that reads on holds it if its last read gets all bytes that it asks for.
  * 4. A frame that the server would refuse never goes to it beside others: each is checked here. If one is refused
  *    nevertheless, each client's frame is asked again by itself. Nothing of a refused frame was made.
- * 5. What was asked is made and answered, also when its client is gone. */
+ * 5. What was asked is made and answered, also when its client is gone.
+ * 6. A viewer waits for no client, and none for it. The hub's own request for the pool's numbers goes with a batch,
+ *    also while a client holds the turn: it changes nothing. */
 #ifndef HUB_H
 #define HUB_H
 
-#include "../c/internal.h"
+#include "numbers.h"
 
 #include <poll.h>
 #include <signal.h>
@@ -24,6 +26,8 @@
 enum { LEAST_CLIENTS = 1, MOST_CLIENTS = 256, DEFAULT_CLIENTS = 32 };
 enum { DEFAULT_TIMEOUT = 30, MOST_TIMEOUT = 86400, MOST_USERS = 16 };
 enum { OPENING_SIZE = 36 };
+/* Of the socket of metrics: its viewers at once, and the bytes of a request, of a line of it, and of a page. */
+enum { VIEWERS = 16, MOST_REQUEST = 8192, MOST_LINE = 2048, MOST_PAGE = 32768 };
 
 /* The refusals of a frame (docs/FRAMES.md). */
 enum { CUT_OFF = 2, BAD_LENGTH, BAD_VERSION, BAD_KIND, BAD_CALL, BAD_RECORD, SURPLUS, ANSWERS_TOO_LONG };
@@ -47,6 +51,7 @@ typedef struct client {
     uid_t user;
     pid_t process;
     uint64_t deadline;    /* of the frame or the answer that is under way */
+    uint64_t begun;       /* when its frame was whole */
     uint32_t count;       /* the requests of its frame, and the room for their answers */
     size_t room;
     size_t size, done;    /* the bytes of the frame or the answer, and how many of them were read or written */
@@ -71,7 +76,7 @@ typedef struct {
 } server;
 
 typedef struct {
-    const char *file, *path, *program;
+    const char *file, *path, *program, *metrics;
     const char *dirty, *cache, *wait, *moment;
     uid_t users[MOST_USERS];
     size_t user_count, most;
@@ -79,19 +84,50 @@ typedef struct {
     unsigned mode;
 } options;
 
+/* A listening socket. */
+typedef struct {
+    const char *path;
+    int file, is_given;   /* its file or -1, and whether the hub's parent gave it */
+    dev_t device;         /* of the path that the hub made */
+    ino_t node;
+    uint64_t pause;       /* until when no one is let in */
+} listener;
+
+/* What a viewer is about: a connection to the socket of metrics. Its request is read, it waits for the pool's numbers,
+ * or its answer is written. */
+typedef enum { NO_VIEWER, VIEWER_READING, VIEWER_WAITING, VIEWER_WRITING } viewing;
+
+typedef struct {
+    int socket;
+    viewing stage;
+    uint64_t deadline;
+    size_t polled;        /* its place in `polled` */
+    size_t size, done;    /* the bytes that were read; those of the answer, and how many of them were written */
+    size_t line;          /* where the last line of the request begins */
+    char *request;        /* MOST_REQUEST */
+    char *page;           /* MOST_PAGE */
+} viewer;
+
+/* A request of the hub's own for the pool's numbers: there is none, it goes with the next batch, or it is asked. */
+typedef enum { NO_LOOK, LOOK_WANTED, LOOK_ASKED } look;
+
 typedef struct {
     options options;
-    int listener, is_given; /* the listening socket, and whether the hub's parent gave it */
-    dev_t device;           /* of the path that the hub made */
-    ino_t node;
-    uint64_t pause;         /* until when no client is let in, after the system had no room for one */
+    listener listener, metrics; /* the sockets of clients and of viewers */
     server server;
     client *clients;
     uint8_t *memory;
-    struct pollfd *polled;  /* the listening socket, the server, and the clients of the slots of `shown`, in order */
+    struct pollfd *polled;  /* the listening sockets, the server, the clients of `shown` in order, and the viewers */
     size_t *shown;
     size_t shown_count;
     size_t count;           /* clients that are there */
+    viewer *viewers;        /* VIEWERS, or NULL without a socket for them */
+    char *pages;            /* their memory */
+    look look;
+    topzerad_status pool;   /* what the last look found */
+    numbers numbers;        /* `age` is set when they are told */
+    uint64_t began;         /* when the hub began */
+    uint64_t first_synced;  /* the group that was synced then */
     line waiting, asked;
     client *holder;         /* whose next frame goes first, and until when */
     uint64_t hold_end;
@@ -110,15 +146,15 @@ int hub_read_options(options *o, int count, char **words);
 
 /* socket.c */
 
-/* Takes a listening socket that the hub's parent gave it, if there is one, and else looks whether the path is free.
- * Returns 0, or the status to end with. */
+/* Takes the listening sockets that the hub's parent gave it, and looks whether the paths of others are free. Returns 0,
+ * or the status to end with. */
 int hub_prepare(hub *h);
 /* Listens. Returns 0, or the status to end with. */
 int hub_listen(hub *h);
-/* Closes it. One that was made here leaves no path. */
+/* Closes what listens. A socket that was made here leaves no path. */
 void hub_end_listening(hub *h);
-/* Lets clients in that wait for it. */
-void hub_let_in(hub *h);
+/* Lets those in that wait at a socket: clients or viewers. */
+void hub_let_in(hub *h, listener *l);
 
 /* server.c */
 
@@ -142,7 +178,6 @@ int hub_take_answer(hub *h);
 
 /* frames.c */
 
-void hub_put_head(uint8_t *to, size_t size, int kind, uint32_t number);
 /* Reads the requests of a whole frame: their count, the room for their answers, and whether it holds the turn. Returns
  * the refusal of the frame, or 0. */
 uint32_t hub_check_frame(client *c);
@@ -152,6 +187,49 @@ size_t hub_request_size(const uint8_t *request);
 size_t hub_answer_size(const uint8_t *answer, size_t most);
 /* Whether a request is a read, and its answer has all bytes that it asks for. */
 int hub_is_full_read(const uint8_t *request, const uint8_t *answer);
+/* Whether a good frame asks for the hub's numbers. */
+int hub_asks_for_numbers(const client *c);
+/* Counts a request that was answered so many nanoseconds after its frame was whole. */
+void hub_count_answer(hub *h, const uint8_t *request, const uint8_t *answer, uint64_t took);
+/* Puts a request for the pool's numbers. Returns its bytes. */
+size_t hub_put_look(uint8_t *to, uint64_t number);
+/* Takes the answer to it. -1 if the pool refused it. */
+int hub_take_look(hub *h, const uint8_t *answer);
+
+/* counts.c */
+
+/* Begins to count. The server has been started. */
+void hub_begin_counting(hub *h);
+/* An answer says that this group is synced. */
+void hub_notice_synced(hub *h, uint64_t group);
+/* The numbers at this moment. */
+const numbers *hub_tell_numbers(hub *h);
+
+/* page.c */
+
+/* Writes the page of metrics. It has the pool's numbers if the pool told them. Returns its bytes. */
+size_t hub_write_page(char page[MOST_PAGE], const numbers *n, const topzerad_status *pool);
+
+/* viewers.c */
+
+/* Takes memory for viewers. -1 with errno. */
+int hub_prepare_viewers(hub *h);
+/* A slot for a viewer, or NULL. */
+viewer *hub_free_viewer(hub *h);
+void hub_add_viewer(viewer *v, int socket);
+/* Tells one that it may not come in, and closes it. */
+void hub_forbid_viewer(int socket);
+/* The look is over. With an answer the viewers that wait are told of the pool. */
+void hub_end_look(hub *h, int is_answered);
+/* Puts what is waited for of each viewer, from that place in `polled` on. Returns the place after them. */
+size_t hub_poll_viewers(hub *h, size_t at);
+/* Does what can be done at once. */
+void hub_serve_viewers(hub *h);
+/* Ends those whose deadline has passed. */
+void hub_tend_viewers(hub *h, uint64_t now);
+/* The deadline of a viewer that is there, or NO_DEADLINE. */
+uint64_t hub_viewer_deadline(const hub *h);
+void hub_close_viewers(hub *h);
 
 /* clients.c */
 

@@ -17,7 +17,14 @@ sys.path[:0] = [str(TOP), str(TOP / "clients/python")]
 from tools.model.frames import HEAD, Opened, Request, read_answers, read_opening, requests_frame  # noqa: E402
 
 SECONDS = 60
-HOLDING, READING_ON = 6, 7
+HOLDING, READING_ON, ASK_NUMBERS, NUMBERS = 6, 7, 8, 9
+TIMES = 26  # the counts of a histogram
+TIMED = ["read", "commit", "durable_commit"]
+
+# The first numbers of a hub's frame (docs/FRAMES.md), and how many follow them.
+SINGLE = """age clients most_clients connections turned_away waiting_frames frames server_frames most_shared_frames
+commits durable_commits undurable_commits read_bytes written_bytes syncs dirty_limit""".split()
+LISTS = {"requests": 10, "refused_requests": 23, "refused_frames": 9}
 
 # A server in the place of `ztxg`: it hands frames on to one, and writes how many requests each has to a file. It waits
 # before each frame, so that the next ones gather.
@@ -77,6 +84,28 @@ def children(process):
             yield int(path.parent.name)
 
 
+def processor_time(process):
+    """The seconds that a process has worked."""
+    fields = pathlib.Path(f"/proc/{process}/stat").read_text().rpartition(")")[2].split()
+    return (int(fields[11]) + int(fields[12])) / os.sysconf("SC_CLK_TCK")
+
+
+def read_numbers(content):
+    """The numbers of a hub's frame: by their names, or a list of them."""
+    length, version, kind, count = struct.unpack_from("<IHHI", content)
+    want((length, version, kind) == (len(content), 1, NUMBERS), "the frame begins", content[:12].hex())
+    values = list(struct.unpack_from(f"<{count}Q", content, HEAD))
+    numbers = dict(zip(SINGLE, values))
+    del values[: len(SINGLE)]
+    for name, size in LISTS.items():
+        numbers[name], values = values[:size], values[size:]
+    for name in TIMED:
+        numbers[name] = dict(sum=values[0], longest=values[1], counts=values[2 : 2 + TIMES])
+        del values[: 2 + TIMES]
+    want(not values, "there are more numbers:", values)
+    return numbers
+
+
 class Client:
     """A connection to a hub, and what it said first."""
 
@@ -118,6 +147,10 @@ class Client:
         want(answer.number == number, "the answer has the number", answer.number, "and not", number)
         return answer.came, answer.content
 
+    def numbers(self):
+        self.send(struct.pack("<IHHI", HEAD, 1, ASK_NUMBERS, 0))
+        return read_numbers(self.receive())
+
     def is_ended(self):
         """Whether the hub ends the connection, and says nothing before."""
         try:
@@ -132,10 +165,12 @@ class Client:
 class Hub:
     """A hub of a pool in a folder of its own."""
 
-    def __init__(self, tests, *options, program=None, folder=None, **process):
+    def __init__(self, tests, *options, program=None, folder=None, has_metrics=False, **process):
         self.tests = tests
         self.folder = pathlib.Path(folder or tempfile.mkdtemp(dir=tests.folder))
         self.file, self.path = self.folder / "tank.pool", self.folder / "socket"
+        self.metrics = self.folder / "metrics"
+        options = [*options, "--metrics", self.metrics] if has_metrics else options
         self.program = program or tests.program
         if not self.file.exists():
             made = [tests.program, "create", self.file, "tank", "77", str(64 << 20)]
@@ -177,7 +212,7 @@ class Hub:
     def ends(self, status):
         found = self.process.wait(SECONDS)
         want(found == status, "the hub ends with", found, "and not", status, self.said())
-        want(not self.path.exists(), "the socket is still there")
+        want(not self.path.exists() and not self.metrics.exists(), "a socket is still there")
 
     def kill(self):
         if self.process.poll() is None:
@@ -217,4 +252,5 @@ class Tests:
         self.room.cleanup()
 
 
-__all__ = ["HEAD", "HOLDING", "READING_ON", "Client", "Fault", "Hub", "Tests", "children", "os", "wait_until", "want"]
+__all__ = ["HEAD", "HOLDING", "READING_ON", "TIMED", "TOP"]
+__all__ += ["Client", "Fault", "Hub", "Tests", "children", "os", "processor_time", "wait_until", "want"]

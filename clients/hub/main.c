@@ -8,8 +8,8 @@
 #include <string.h>
 #include <sys/resource.h>
 
-enum { LISTENER, SERVER, FIRST_CLIENT };
-enum { OTHER_FILES = 16, NANOSECONDS_OF_A_MILLISECOND = 1000000 };
+enum { LISTENER, SERVER, METRICS, FIRST_CLIENT };
+enum { OTHER_FILES = 16 + 1 + VIEWERS, NANOSECONDS_OF_A_MILLISECOND = 1000000 };
 
 /* The only one: the handler of signals needs it. */
 static hub the_hub;
@@ -44,9 +44,10 @@ static int take_memory(hub *h) {
     size_t most = h->options.most;
     h->memory = calloc(most + 2, MAX_FRAME);
     h->clients = calloc(most, sizeof *h->clients);
-    h->polled = calloc(most + FIRST_CLIENT, sizeof *h->polled);
+    h->polled = calloc(most + FIRST_CLIENT + VIEWERS, sizeof *h->polled);
     h->shown = calloc(most, sizeof *h->shown);
     if (!h->memory || !h->clients || !h->polled || !h->shown) return -1;
+    if ((h->metrics.path || h->metrics.is_given) && hub_prepare_viewers(h)) return -1;
     h->server.out = h->memory + most * MAX_FRAME;
     h->server.in = h->server.out + MAX_FRAME;
     for (size_t i = 0; i < most; i++) {
@@ -61,6 +62,8 @@ static void give_memory_back(hub *h) {
     free(h->clients);
     free(h->polled);
     free(h->shown);
+    free(h->viewers);
+    free(h->pages);
 }
 
 /* Lets the process have as many files as it needs, if it may. */
@@ -94,6 +97,7 @@ static void lose_server(hub *h) {
     h->server.is_gone = 1;
     h->server.out_size = h->server.out_done = 0;
     begin_stop(h);
+    hub_end_look(h, 0);
     h->holder = NULL;
     h->waiting = (line){NULL, &h->waiting.first};
     h->asked = (line){NULL, &h->asked.first};
@@ -108,6 +112,7 @@ static void notice_stops(hub *h) {
     if (h->stops && !h->is_stopping) begin_stop(h);
     if (h->stops > 1) close_all(h);
     hub_tend_clients(h, topzerad_now());
+    hub_tend_viewers(h, topzerad_now());
     int is_last = h->is_stopping && (!h->count || h->stops > 1);
     if (is_last && !h->server.is_gone && !h->server.is_closing) hub_close_server(h);
 }
@@ -121,10 +126,17 @@ static struct pollfd polled_client(const client *c) {
     return (struct pollfd){c->is_gone ? -1 : c->socket, events, 0};
 }
 
-static void set_polled(hub *h, uint64_t now) {
+static struct pollfd polled_listener(const listener *l, uint64_t now) {
+    return (struct pollfd){now < l->pause ? -1 : l->file, POLLIN, 0};
+}
+
+/* Sets what is waited for. Returns how many entries it has. */
+static size_t set_polled(hub *h, uint64_t now) {
     const server *s = &h->server;
     short out = s->out_done < s->out_size ? POLLOUT : 0;
-    h->polled[LISTENER] = (struct pollfd){now < h->pause ? -1 : h->listener, POLLIN, 0};
+    h->polled[LISTENER] = polled_listener(&h->listener, now);
+    h->polled[METRICS] = polled_listener(&h->metrics, now);
+    if (!hub_free_viewer(h)) h->polled[METRICS].fd = -1; /* others wait until one has ended */
     h->polled[SERVER] = (struct pollfd){s->is_gone ? -1 : s->socket, (short)(POLLIN | out), 0};
     h->shown_count = 0;
     for (size_t i = 0; i < h->options.most; i++) {
@@ -132,11 +144,18 @@ static void set_polled(hub *h, uint64_t now) {
         h->polled[FIRST_CLIENT + h->shown_count] = polled_client(&h->clients[i]);
         h->shown[h->shown_count++] = i;
     }
+    return hub_poll_viewers(h, FIRST_CLIENT + h->shown_count);
 }
+
+static uint64_t least(uint64_t one, uint64_t other) { return one < other ? one : other; }
+
+/* When a socket lets in again. */
+static uint64_t end_of_pause(const listener *l, uint64_t now) { return l->pause > now ? l->pause : NO_DEADLINE; }
 
 /* When something is due that no file tells. */
 static uint64_t next_deadline(const hub *h, uint64_t now) {
-    uint64_t next = h->pause > now ? h->pause : NO_DEADLINE;
+    uint64_t next = least(end_of_pause(&h->listener, now), end_of_pause(&h->metrics, now));
+    next = least(next, hub_viewer_deadline(h));
     if (h->holder && hub_is_awaited(h->holder) && h->hold_end < next) next = h->hold_end;
     for (size_t i = 0; i < h->options.most; i++) {
         const client *c = &h->clients[i];
@@ -150,8 +169,8 @@ static int wait_for_files(hub *h, const sigset_t *open) {
     uint64_t now = topzerad_now(), next = next_deadline(h, now);
     uint64_t left = next > now ? next - now : NANOSECONDS_OF_A_MILLISECOND;
     struct timespec time = {(time_t)(left / SECOND), (long)(left % SECOND)};
-    set_polled(h, now);
-    int ready = ppoll(h->polled, h->shown_count + FIRST_CLIENT, next == NO_DEADLINE ? NULL : &time, open);
+    size_t count = set_polled(h, now);
+    int ready = ppoll(h->polled, count, next == NO_DEADLINE ? NULL : &time, open);
     return ready < 0 && errno != EINTR ? -1 : ready;
 }
 
@@ -172,7 +191,9 @@ static void serve_files(hub *h) {
         client *c = &h->clients[h->shown[i]];
         if (polled->revents && c->socket == polled->fd) serve_client(h, c, polled->revents);
     }
-    if (h->polled[LISTENER].revents && h->listener >= 0) hub_let_in(h);
+    hub_serve_viewers(h);
+    if (h->polled[LISTENER].revents && h->listener.file >= 0) hub_let_in(h, &h->listener);
+    if (h->polled[METRICS].revents && h->metrics.file >= 0) hub_let_in(h, &h->metrics);
 }
 
 /* Runs until the server is gone and the last answer was written. */
@@ -192,9 +213,11 @@ static int serve(hub *h) {
     sigset_t open;
     int status = hub_start_server(h);
     if (status) return status;
+    hub_begin_counting(h);
     status = take_signals(&open) ? hub_cannot_use("signals", NULL, errno) : hub_listen(h);
     if (!status && run(h, &open)) status = hub_cannot_use("poll", NULL, errno);
     hub_end_listening(h);
+    hub_close_viewers(h);
     if (status) hub_close_server(h);
     int ended = hub_end_server(h);
     return status ? status : ended;
@@ -202,7 +225,7 @@ static int serve(hub *h) {
 
 int main(int count, char **words) {
     hub *h = &the_hub;
-    h->listener = h->server.socket = -1;
+    h->listener.file = h->metrics.file = h->server.socket = -1;
     h->waiting.last = &h->waiting.first;
     h->asked.last = &h->asked.first;
     int status = hub_read_options(&h->options, count, words);

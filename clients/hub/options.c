@@ -17,7 +17,8 @@ static const char usage[] =
     "Lets several processes use the pool in FILE, which `ztxg serve FILE` has.\n"
     "\n"
     "  --socket PATH      the Unix socket that clients come to, unless the hub's parent gives one\n"
-    "  --mode M           its mode, 600 if not given\n"
+    "  --metrics PATH     a Unix socket whose connections get a page of metrics, as Prometheus reads it, by HTTP\n"
+    "  --mode M           the mode of both, 600 if not given\n"
     "  --user NAME        lets this user in besides the hub's own and root; may be given 16 times\n"
     "  --max-clients N    the most clients at once, 1 to 256, 32 if not given\n"
     "  --timeout S        the seconds that a client may take to send a frame or to read an answer, 30 if not given\n"
@@ -26,10 +27,12 @@ static const char usage[] =
     "                     options of `ztxg serve`\n"
     "  -h, --help; -V, --version\n";
 
-enum { SOCKET = 256, MODE, USER, MAX_CLIENTS, TIMEOUT, PROGRAM, DIRTY, CACHE, MOMENT, WAIT };
+enum { SOCKET = 256, MODE, USER, MAX_CLIENTS, TIMEOUT, PROGRAM, DIRTY, CACHE, MOMENT, WAIT,
+       METRICS };
 
 static const struct option known[] = {
     {"socket", required_argument, NULL, SOCKET},
+    {"metrics", required_argument, NULL, METRICS},
     {"mode", required_argument, NULL, MODE},
     {"user", required_argument, NULL, USER},
     {"max-clients", required_argument, NULL, MAX_CLIENTS},
@@ -112,6 +115,7 @@ static int read_limit(options *o, int option, const char *word) {
 static const char **place_of(options *o, int option) {
     switch (option) {
     case SOCKET: return &o->path;
+    case METRICS: return &o->metrics;
     case PROGRAM: return &o->program;
     case DIRTY: return &o->dirty;
     case CACHE: return &o->cache;

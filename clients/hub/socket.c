@@ -1,4 +1,4 @@
-/* The listening socket, and who may come in. */
+/* The listening sockets, and who may come in. */
 #define _GNU_SOURCE
 #include "hub.h"
 
@@ -15,9 +15,12 @@
 #include <time.h>
 #include <unistd.h>
 
-enum { GIVEN = 3, BACKLOG = 64, AT_ONCE = 16, CAUSE = 96 };
+enum { GIVEN = 3, MOST_GIVEN = 2, BACKLOG = 64, AT_ONCE = 16, CAUSE = 96 };
+
+static const char given[] = "the given socket", for_viewers[] = "metrics";
 
 #define LOCK_TIME (5 * SECOND) /* how long another hub may take to replace the socket */
+#define PAUSE (SECOND / 10)    /* until others are let in, after the system had no room, or viewers came */
 
 /* A path. */
 
@@ -73,58 +76,69 @@ static int lock_folder(struct sockaddr_un address) {
 }
 
 /* Makes a socket at the path. Returns 0 or an error number. */
-static int make_socket(hub *h, const struct sockaddr_un *address) {
+static int make_socket(listener *l, unsigned mode, const struct sockaddr_un *address) {
     struct stat made;
-    h->listener = socket(AF_UNIX, SOCK_STREAM | SOCK_CLOEXEC | SOCK_NONBLOCK, 0);
-    if (h->listener < 0) return errno;
-    mode_t before = umask(0777 & ~h->options.mode);
-    int failed = bind(h->listener, (const struct sockaddr *)address, sizeof *address) ? errno : 0;
+    l->file = socket(AF_UNIX, SOCK_STREAM | SOCK_CLOEXEC | SOCK_NONBLOCK, 0);
+    if (l->file < 0) return errno;
+    mode_t before = umask(0777 & ~mode);
+    int failed = bind(l->file, (const struct sockaddr *)address, sizeof *address) ? errno : 0;
     umask(before);
     if (failed) return failed;
-    if (lstat(h->options.path, &made)) return errno;
-    h->device = made.st_dev;
-    h->node = made.st_ino;
-    return listen(h->listener, BACKLOG) ? errno : 0;
+    if (lstat(l->path, &made)) return errno;
+    l->device = made.st_dev;
+    l->node = made.st_ino;
+    return listen(l->file, BACKLOG) ? errno : 0;
 }
 
 /* Makes the socket in the place of a dead one. The folder is locked. */
-static int replace_socket(hub *h, const struct sockaddr_un *address) {
+static int replace_socket(listener *l, unsigned mode, const struct sockaddr_un *address) {
     int is_dead;
-    int status = test_path(h->options.path, address, &is_dead);
+    int status = test_path(l->path, address, &is_dead);
     if (status) return status;
-    if (is_dead && unlink(h->options.path)) return hub_cannot_use(h->options.path, NULL, errno);
-    int failed = make_socket(h, address);
-    return failed ? hub_cannot_use(h->options.path, NULL, failed) : 0;
+    if (is_dead && unlink(l->path)) return hub_cannot_use(l->path, NULL, errno);
+    int failed = make_socket(l, mode, address);
+    return failed ? hub_cannot_use(l->path, NULL, failed) : 0;
 }
 
-int hub_listen(hub *h) {
+/* Listens at a path, if there is one and its socket isn't given. */
+static int listen_at(listener *l, unsigned mode) {
     struct sockaddr_un address;
-    if (h->is_given) return 0;
-    int failed = set_address(&address, h->options.path);
-    if (failed) return hub_cannot_use(h->options.path, NULL, failed);
+    if (l->is_given || !l->path) return 0;
+    int failed = set_address(&address, l->path);
+    if (failed) return hub_cannot_use(l->path, NULL, failed);
     int folder = lock_folder(address);
-    if (folder < 0) return hub_cannot_use(h->options.path, NULL, errno);
-    int status = replace_socket(h, &address);
+    if (folder < 0) return hub_cannot_use(l->path, NULL, errno);
+    int status = replace_socket(l, mode, &address);
     close(folder);
     return status;
 }
 
+int hub_listen(hub *h) {
+    int status = listen_at(&h->listener, h->options.mode);
+    return status ? status : listen_at(&h->metrics, h->options.mode);
+}
+
 /* Removes the path that the hub made, unless another file is there by now. */
-static void remove_path(const hub *h) {
+static void remove_path(const listener *l) {
     struct stat found;
-    if (lstat(h->options.path, &found) || found.st_dev != h->device || found.st_ino != h->node) return;
-    if (unlink(h->options.path)) hub_tell("%s can't be removed", h->options.path);
+    if (lstat(l->path, &found) || found.st_dev != l->device || found.st_ino != l->node) return;
+    if (unlink(l->path)) hub_tell("%s can't be removed", l->path);
 }
 
 /* The path goes first: while the hub listens no other one takes its place. */
-void hub_end_listening(hub *h) {
-    if (h->listener < 0) return;
-    if (!h->is_given && h->node) remove_path(h);
-    close(h->listener);
-    h->listener = -1;
+static void end_listener(listener *l) {
+    if (l->file < 0) return;
+    if (!l->is_given && l->node) remove_path(l);
+    close(l->file);
+    l->file = -1;
 }
 
-/* A given socket (sd_listen_fds(3)). */
+void hub_end_listening(hub *h) {
+    end_listener(&h->listener);
+    end_listener(&h->metrics);
+}
+
+/* Given sockets (sd_listen_fds(3)). */
 
 /* The number that a variable of the environment has, or -1. */
 static long number_of(const char *variable) {
@@ -143,33 +157,57 @@ static int is_listening(int file) {
     return !getsockopt(file, SOL_SOCKET, SO_ACCEPTCONN, &is, &one) && is;
 }
 
-/* Takes the socket that is given. */
-static int take_given(hub *h) {
-    const char *name = "the given socket";
-    if (number_of("LISTEN_FDS") != 1) return hub_cannot_use(name, "one socket has to be given", 0);
-    if (!is_listening(GIVEN)) return hub_cannot_use(name, "it is no Unix socket that listens", 0);
-    if (fcntl(GIVEN, F_SETFD, FD_CLOEXEC) || fcntl(GIVEN, F_SETFL, O_NONBLOCK))
-        return hub_cannot_use(name, NULL, errno);
-    if (unsetenv("LISTEN_FDS") || unsetenv("LISTEN_PID") || unsetenv("LISTEN_FDNAMES"))
-        return hub_cannot_use(name, NULL, errno);
-    h->listener = GIVEN;
-    h->is_given = 1;
+/* Takes a socket that is given. */
+static int take_socket(listener *l, int file) {
+    if (l->is_given) return hub_cannot_use(given, "two sockets are given for one purpose", 0);
+    if (!is_listening(file)) return hub_cannot_use(given, "it is no Unix socket that listens", 0);
+    if (fcntl(file, F_SETFD, FD_CLOEXEC) || fcntl(file, F_SETFL, O_NONBLOCK)) return hub_cannot_use(given, NULL, errno);
+    l->file = file;
+    l->is_given = 1;
     return 0;
 }
 
-int hub_prepare(hub *h) {
+/* Takes what is given: the socket with the name `metrics` is for viewers, and another one for clients. Names are set
+ * apart by colons. */
+static int take_given(hub *h) {
+    const char *names = getenv("LISTEN_FDNAMES"), *name = names ? names : "";
+    long count = number_of("LISTEN_FDS");
+    if (count < 1 || count > MOST_GIVEN) return hub_cannot_use(given, "one or two have to be given", 0);
+    for (int i = 0; i < count; i++) {
+        size_t length = strcspn(name, ":");
+        int is_metrics = length == strlen(for_viewers) && !strncmp(name, for_viewers, length);
+        int status = take_socket(is_metrics ? &h->metrics : &h->listener, GIVEN + i);
+        if (status) return status;
+        name += length + (name[length] == ':');
+    }
+    if (unsetenv("LISTEN_FDS") || unsetenv("LISTEN_PID") || unsetenv("LISTEN_FDNAMES"))
+        return hub_cannot_use(given, NULL, errno);
+    return 0;
+}
+
+/* Looks whether a path is free, if there is one and its socket isn't given. */
+static int prepare_path(const listener *l) {
     struct sockaddr_un address;
     int is_dead;
-    if (number_of("LISTEN_PID") == (long)getpid()) return take_given(h);
-    if (!h->options.path) {
+    if (l->is_given || !l->path) return 0;
+    int failed = set_address(&address, l->path);
+    return failed ? hub_cannot_use(l->path, NULL, failed) : test_path(l->path, &address, &is_dead);
+}
+
+int hub_prepare(hub *h) {
+    h->listener.path = h->options.path;
+    h->metrics.path = h->options.metrics;
+    int status = number_of("LISTEN_PID") == (long)getpid() ? take_given(h) : 0;
+    if (status) return status;
+    if (!h->listener.path && !h->listener.is_given) {
         hub_tell("--socket PATH is wanted");
         return BAD_LINE;
     }
-    int failed = set_address(&address, h->options.path);
-    return failed ? hub_cannot_use(h->options.path, NULL, failed) : test_path(h->options.path, &address, &is_dead);
+    status = prepare_path(&h->listener);
+    return status ? status : prepare_path(&h->metrics);
 }
 
-/* Clients. */
+/* Clients and viewers. */
 
 static int may_come_in(const options *o, uid_t user) {
     if (user == 0 || user == geteuid()) return 1;
@@ -180,9 +218,10 @@ static int may_come_in(const options *o, uid_t user) {
 
 /* Tells a client why it isn't let in: as a pool that isn't open, with an error number. If there is no room for that in
  * the socket, the client learns nothing. */
-static void turn_away(int socket, int error, const char *cause) {
+static void turn_away(hub *h, int socket, int error, const char *cause) {
     uint8_t frame[OPENING_SIZE + CAUSE] = {0};
     size_t count = strlen(cause);
+    h->numbers.turned_away++;
     if (count > CAUSE) count = CAUSE;
     hub_put_head(frame, OPENING_SIZE + count, UNOPENED, 0);
     put(frame + HEAD + 16, (uint64_t)error, 4);
@@ -194,36 +233,51 @@ static void turn_away(int socket, int error, const char *cause) {
 }
 
 /* Lets a client in if it may come and there is room. */
-static void let_in(hub *h, int socket) {
-    struct ucred peer;
-    socklen_t size = sizeof peer;
+static void let_client_in(hub *h, int socket, const struct ucred *peer) {
     char cause[CAUSE];
-    if (getsockopt(socket, SOL_SOCKET, SO_PEERCRED, &peer, &size)) {
-        close(socket);
-        return;
-    }
     client *c = hub_free_slot(h);
-    if (!may_come_in(&h->options, peer.uid)) {
-        (void)snprintf(cause, sizeof cause, "the hub lets no user %lu in", (unsigned long)peer.uid);
-        turn_away(socket, EACCES, cause);
+    if (!may_come_in(&h->options, peer->uid)) {
+        (void)snprintf(cause, sizeof cause, "the hub lets no user %lu in", (unsigned long)peer->uid);
+        turn_away(h, socket, EACCES, cause);
     } else if (!c) {
         (void)snprintf(cause, sizeof cause, "the hub has %zu clients, as many as it may have", h->options.most);
-        turn_away(socket, EAGAIN, cause);
+        turn_away(h, socket, EAGAIN, cause);
     } else {
-        hub_add_client(h, c, socket, peer.uid, peer.pid);
+        hub_add_client(h, c, socket, peer->uid, peer->pid);
     }
 }
 
-void hub_let_in(hub *h) {
+static void let_in(hub *h, const listener *l, int socket) {
+    struct ucred peer;
+    socklen_t size = sizeof peer;
+    if (getsockopt(socket, SOL_SOCKET, SO_PEERCRED, &peer, &size))
+        close(socket);
+    else if (l == &h->listener)
+        let_client_in(h, socket, &peer);
+    else if (may_come_in(&h->options, peer.uid))
+        hub_add_viewer(hub_free_viewer(h), socket);
+    else
+        hub_forbid_viewer(socket);
+}
+
+/* Lets those in that there is room for. */
+static void let_some_in(hub *h, listener *l) {
     for (int i = 0; i < AT_ONCE; i++) {
-        int socket = accept4(h->listener, NULL, NULL, SOCK_CLOEXEC | SOCK_NONBLOCK);
+        if (l == &h->metrics && !hub_free_viewer(h)) return;
+        int socket = accept4(l->file, NULL, NULL, SOCK_CLOEXEC | SOCK_NONBLOCK);
         if (socket >= 0) {
-            let_in(h, socket);
+            let_in(h, l, socket);
             continue;
         }
         if (errno == EINTR || errno == ECONNABORTED) continue;
         /* For want of memory or numbers of files it is tried again a little later. */
-        if (errno != EAGAIN && errno != EWOULDBLOCK) h->pause = topzerad_now() + SECOND / 10;
+        if (errno != EAGAIN && errno != EWOULDBLOCK) l->pause = topzerad_now() + PAUSE;
         return;
     }
+}
+
+/* Viewers that come without end leave time for clients. */
+void hub_let_in(hub *h, listener *l) {
+    let_some_in(h, l);
+    if (l == &h->metrics) l->pause = topzerad_now() + PAUSE;
 }

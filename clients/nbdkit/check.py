@@ -151,7 +151,7 @@ def options(tank):
         "dirty=1048577M": "no dirty limit",
         "cache=0": "no size of a cache",
         "cache=5000": "no size of a cache",
-        "cache=16388K": "no size of a cache",
+        "cache=1048580K": "no size of a cache",
         "colour=red": "no option colour",
         "ro=true": "no disk yet",
         "program=/": "can't be started",

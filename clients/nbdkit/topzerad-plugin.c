@@ -19,11 +19,12 @@
 #define MOST_DIRTY (INT64_C(1) << 40)
 
 /* The greatest cache that the program takes. */
-#define MOST_CACHE (INT64_C(16) << 20)
+#define MOST_CACHE (INT64_C(1) << 30)
+#define DEFAULT_CACHE (INT64_C(16) << 20)
 
 static char *file, *program;
 static int64_t dirty_limit = 4 << 20; /* the most bytes that unsynced transactions may be charged */
-static int64_t cache_size = MOST_CACHE; /* the most bytes of tree blocks that stay in memory once read */
+static int64_t cache_size = DEFAULT_CACHE; /* the most bytes of tree blocks that stay in memory once read */
 static int64_t wanted_size; /* 0 if it is not given */
 static int is_read_only;
 

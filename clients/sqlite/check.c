@@ -298,7 +298,7 @@ static int open_by_uri(const char *uri) {
 static void refuse_names(void) {
     const char *const bad[] = {
         "a%23b", "a/b", "a%01", "%ff", "/x/a", "a?dirty=1", "a?dirty=x", "a?dirty=1048577", "a?pool_cache=4095",
-        "a?pool_cache=17M", "a?read_cache=60K", "a?read_cache=65537", "a?read_cache=2G", "a?read_cache=",
+        "a?pool_cache=1025M", "a?read_cache=60K", "a?read_cache=65537", "a?read_cache=2G", "a?read_cache=",
         "a?wait=-1", "a?wait=1h", "a?timeout=86401",
     };
     char uri[8192], longest[300];

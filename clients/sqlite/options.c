@@ -5,7 +5,7 @@
 #include <string.h>
 SQLITE_EXTENSION_INIT3
 
-enum { BLOCK = 4096, MOST_CACHE = 16 << 20, LEAST_DIRTY = 1 << 20, MOST_SECONDS = 86400, DEFAULT_WAIT = 5 };
+enum { BLOCK = 4096, MOST_CACHE = 1 << 30, DEFAULT_CACHE = 16 << 20, LEAST_DIRTY = 1 << 20, MOST_SECONDS = 86400, DEFAULT_WAIT = 5 };
 enum { LEAST_READS = 64 << 10, MOST_READS = 1 << 30, DEFAULT_READS = 64 << 20 };
 #define MOST_DIRTY (UINT64_C(1) << 40)
 #define NO_NUMBER UINT64_MAX
@@ -53,7 +53,7 @@ static int read_seconds(const char *uri, const char *option, double *value) {
 }
 
 int read_options(const char *uri, const char **program, topzerad_options *options) {
-    uint64_t cache = MOST_CACHE;
+    uint64_t cache = DEFAULT_CACHE;
     double wait = DEFAULT_WAIT;
     const char *word = uri ? sqlite3_uri_parameter(uri, "program") : NULL;
     *program = word ? word : "ztxg";

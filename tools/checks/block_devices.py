@@ -218,12 +218,12 @@ class BlockDevices(Judge):
     def sizes(self, device):
         """Sizes that a device with a pool doesn't have."""
         for size in (SIZE + LABEL, SIZE - LABEL, 2**30):
-            self.is_not_sized(device, ["create", FILE, "tank", "77", str(size)], f"{REPLACED}\n")
+            self.is_not_sized(device, ["create", FILE, "tank", "77", str(size)])
             self.is_not_sized(device, ["create", FILE, "--size", str(size), "--force"])
 
-    def is_not_sized(self, device, words, before=""):
-        """A create is refused, since the device has another size."""
-        self.ends(device, [*WAIT, *words], 3, errors=f"{before}{UNUSABLE.format(NOT_SIZED)}")
+    def is_not_sized(self, device, words):
+        """A create is refused, since the device has another size. So no pool is replaced, and none is said to be."""
+        self.ends(device, [*WAIT, *words], 3, errors=UNUSABLE.format(NOT_SIZED))
 
     def threads(self, device, file):
         """What threads do in an order of their own: the same is answered, and the bytes may differ."""

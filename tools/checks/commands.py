@@ -473,7 +473,7 @@ class Commands(Judge):
             if dirty != "4096" and pathlib.Path("fault.pool").read_bytes() != before:
                 self.differ("a refused limit changes the file")
         before = pathlib.Path("fault.pool").read_bytes()
-        for cache in ["0", "4097"]:
+        for cache in ["0", "262145"]:
             status, out, errors = self.run([*load, *LOAD, "--cache", cache])
             if (status, out, errors) != (1, "", "ztxg: refused 11 BadRange\n"):
                 self.differ("a cache of", cache, "ends with", (status, out, errors))
@@ -510,7 +510,7 @@ class Commands(Judge):
             # The line that is put has a newline, too.
             ([*put, "--offset", str(most - 2)], "11 BadRange", end.replace(" E:", f" {most + 1}:")),
             (["load", name, *LOAD, "--dirty", "1"], "11 BadRange", causes["D"].replace(" D:", " 1:")),
-            (["load", name, *LOAD, "--cache", "4097"], "11 BadRange", causes["C"].replace(" C:", " 4097:")),
+            (["load", name, *LOAD, "--cache", "262145"], "11 BadRange", causes["C"].replace(" C:", " 262145:")),
             (["copy", name, "new.pool", "--size", "1"], "8 BadGeometry", causes["SIZE"].replace(" S:", " 1:")),
             (["bench", "--size", "1"], "8 BadGeometry", causes["SIZE"].replace(" S:", " 1:")),
             (["bench", "--workers", "0"], "11 BadRange", causes["W of a bench"].replace(" W:", " 0:")),

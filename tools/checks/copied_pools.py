@@ -40,9 +40,12 @@ LOG = [
     "lock 1 2 w 0 10000",
     f"begin 1 w:{SMALL}:7:3 w:{SMALL}:{RECORD}:{RECORD}",
     f"commit 0 new @{RECORD}:x",
-    f"lock 1 {LOGGED} w 0 10000",
+    f"lock 1 {LOGGED} w 0 28449792",
     f"begin 1 c:{LOGGED} w:{LOGGED}:5000:5",
     "commit 1 alone",
+    # The first record takes two blocks.
+    "log-write",
+    "log-write",
     "log-write",
     "log-flush",
 ]
@@ -167,7 +170,7 @@ class Copies(Judge):
         ]:
             self.ends(words, 0, is_made=True)
             self.judge_made(words, objects, size, guid)
-        self.ends(["--size", "7M"], 1, errors=b"ztxg: refused 8 BadGeometry\n")
+        self.ends(["--size", "7000000"], 1, errors=b"ztxg: refused 8 BadGeometry\n")
         pathlib.Path(self.new).write_bytes(b"there")
         errors = f"ztxg: cannot use {self.new}\n".encode()
         self.ends([], 3, errors=errors, is_made=True)

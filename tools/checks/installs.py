@@ -35,7 +35,8 @@ PREFIX = "opt/pool"
 # What is installed below PREFIX, besides the shared library and the plugin.
 FILES = """bin/ztxg include/topzerad.h lib64/libtopzerad.a lib64/libtopzerad.so lib64/pkgconfig/topzerad.pc
 share/man/man1/ztxg.1 share/man/man3/topzerad.3 bin/ztxg-hub bin/ztxg-ctl share/man/man1/ztxg-hub.1
-share/man/man1/ztxg-ctl.1 share/topzerad/ztxg-hub@.service share/topzerad/ztxg-hub@.socket""".split()
+share/man/man1/ztxg-ctl.1 share/topzerad/ztxg-hub@.service share/topzerad/ztxg-hub@.socket
+share/topzerad/ztxg-hub-metrics@.socket""".split()
 COMPLETION = "share/bash-completion/completions/ztxg"
 PLUGIN = "lib64/nbdkit/plugins/nbdkit-topzerad-plugin.so"
 EXTENSION = "lib64/topzerad.so"

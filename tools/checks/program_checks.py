@@ -70,6 +70,7 @@ def all_checks():
     """The checks, the longest first."""
     cc = ["cc"]
     return [
+        Check("copied_pools"),
         Check("caches"),
         Check("old_pools", needs=cc),
         Check("hostile", ["0:1000"]),

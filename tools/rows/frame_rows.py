@@ -51,7 +51,7 @@ NOT_REGULAR = Unopened(0, 0, 0, 0, "not a regular file")
 IN_USE = Unopened(0, 0, 0, errno.EAGAIN, "in use by another process or device")
 # So many zeros are no pool.
 ZEROS = [(SIZE, refusal(6)), (LEAST - 1, refusal(8)), (0, refusal(8))]
-BAD_LIMITS = [("--dirty", "4095"), ("--dirty", "1099511627777"), ("--cache", "0"), ("--cache", "4097")]
+BAD_LIMITS = [("--dirty", "4095"), ("--dirty", "1099511627777"), ("--cache", "0"), ("--cache", "262145")]
 # The data block of the first object of a new pool lies behind the block that the import took for the log.
 FIRST_DATA = AREA + BLOCK
 DAMAGED = refusal(7, DATA, FIRST_DATA)

@@ -91,7 +91,7 @@ class Pool:
     share: then there is no program, and `timeout` is the only option. The options are those of `ztxg serve`:
 
     - `dirty`: the most bytes that unsynced transactions may be charged, the program's default if not given.
-    - `cache`: the most blocks of 4,096 bytes that stay in memory, 1 to 4,096.
+    - `cache`: the most blocks of 4,096 bytes that stay in memory, 1 to 262,144.
     - `moment`: a time in seconds, which the pool stores.
     - `wait`: for how many seconds, up to 86,400, it tries again while another process has the file.
 

@@ -42,7 +42,7 @@ impl Options {
         self
     }
 
-    /// The most tree blocks in the cache, and the most that syncs wrote beside it. 1 to 4,096.
+    /// The most tree blocks in the cache, and the most that syncs wrote beside it. 1 to 262,144.
     pub fn cache(&mut self, blocks: u64) -> &mut Options {
         self.cache = Some(blocks);
         self

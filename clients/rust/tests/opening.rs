@@ -68,7 +68,7 @@ fn an_open_that_fails_says_why() {
     let folder = Pool::open(program(), env!("CARGO_TARGET_TMPDIR"));
     assert!(matches!(folder, Err(Error::Unusable { cause, source: None }) if cause == "not a regular file"));
     assert_eq!(refusal(Options::new().dirty(4_095).open(program(), &path)), Some(Refusal::BadRange));
-    assert_eq!(refusal(Options::new().cache(4_097).open(program(), &path)), Some(Refusal::BadRange));
+    assert_eq!(refusal(Options::new().cache(262_145).open(program(), &path)), Some(Refusal::BadRange));
     let too_long = Options::new().wait(Duration::from_millis(86_400_001)).open(program(), &path);
     assert!(text(too_long).ends_with("wait 86401: 0 to 86400 seconds"));
     let no_pool = new_path("zeros.pool");

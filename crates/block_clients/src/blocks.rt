@@ -1,13 +1,16 @@
 //! What callers rest on of blocks that are sealed and opened.
 
-ghost use Rattle.std.specs.Prelude.{◌≡◌, IsErrOf, IsOk, length};
-ghost use Rattle.base.specs.formats.Blocks.{IsSealed};
+ghost use Rattle.std.specs.Prelude.{◌≡◌, ◌∷◌, [], IfOk, IsErrOf, IsOk, drop, false, length, true};
+ghost use Rattle.base.specs.formats.Blocks.{IsSealed, sealed_block};
 ghost use Rattle.base.specs.formats.Fields.{number_at, part};
+ghost use Rattle.checked_blocks.specs.Opening.{IsExpected};
 
 use base::{BLOCK_SIZE, Group, PoolError, Version};
 use checked_blocks::{
-    Block, Content, Expected, Frame, Payload, ReadBlock, are_expected, open, seal, seal_four,
+    Block, Content, Expected, Frame, Lanes, Payload, Prepared, ReadBlock, SealedBlock,
+    are_expected, open, open_all, seal, seal_all, seal_four,
 };
+use std::alloc::{AllocError, Global};
 
 fn a_sealed_block_opens_and_gives_its_payload(payload: &[u8]) -> Result<(), PoolError>
     requires { length payload.now ≡ 4032 }
@@ -90,6 +93,44 @@ fn no_four_blocks_have_a_payload_of_4033_bytes(payload: &[u8]) -> Result<[Block;
         payload: &[],
     };
     seal_four(5, 77, Group(9), &short, &short, &short, &long)
+}
+
+// Prepared blocks become the sealed blocks of their numbers and payloads, in their order, with any lanes.
+fn prepared_blocks_are_sealed(
+    alloc: Global,
+    lanes: Lanes,
+    first: Prepared,
+    second: Prepared,
+) -> Result<Vec<SealedBlock>, AllocError>
+    ensures { IfOk result (λ sealed. sealed.items
+        ≡ sealed_block 5 77 9 first.number (drop 64 first.bytes.value)
+        ∷ sealed_block 5 77 9 second.number (drop 64 second.bytes.value) ∷ []) }
+{
+    let blocks = vec![in alloc; first, second]?;
+    seal_all(alloc, lanes, 5, 77, Group(9), blocks)
+}
+
+// A prepared block that is sealed with another one is the one that is sealed alone.
+fn the_second_of_prepared_blocks_is_as_sealed_alone(
+    alloc: Global,
+    payload: &[u8],
+) -> Result<(), PoolError>
+    requires { length payload.now ≡ 4032 }
+{
+    let other = Prepared::new(alloc, 1, &[])?;
+    let second = Prepared::new(alloc, 3, payload)?;
+    let sealed = prepared_blocks_are_sealed(alloc, Lanes::Eight, other, second)?;
+    let block = sealed[1].to_block();
+    let alone = seal(5, 77, Group(9), 3, payload)?;
+    prove!(block == alone);
+    Ok(())
+}
+
+// A pointer to a block that was sealed in its own memory has the check of the block's bytes.
+fn a_sealed_block_has_the_check_of_its_bytes(block: &SealedBlock) {
+    let check = block.check();
+    let bytes = block.as_bytes();
+    prove!(check[..] == bytes[32..64]);
 }
 
 fn a_copy_of_a_block_has_its_bytes(block: &Block) {
@@ -212,6 +253,26 @@ fn bytes_that_are_not_sealed_are_not_expected(
     let read = ReadBlock { block, expected };
     let (_, _, _, fourth) = are_expected(&beside, &beside, &beside, &read);
     prove!(!fourth);
+}
+
+// Of two blocks the one that is expected is accepted, and the other one isn't.
+fn of_two_blocks_the_expected_one_is_accepted(
+    alloc: Global,
+    lanes: Lanes,
+    block: &[u8; BLOCK_SIZE],
+    other: &[u8; BLOCK_SIZE],
+    expected: &Expected,
+) -> Result<Vec<bool>, AllocError>
+    requires expected { IsExpected block.now expected.now }
+    requires damaged { IsSealed other.now → ⊥ }
+    ensures { IfOk result (λ found. found.items ≡ true ∷ false ∷ []) }
+{
+    let read = ReadBlock { block, expected };
+    let damaged = ReadBlock {
+        block: other,
+        expected,
+    };
+    open_all(alloc, lanes, &[read, damaged])
 }
 
 fn two_blocks_have_two_addresses() {

@@ -2,3 +2,4 @@ pub mod Addresses
 pub mod Placed
 pub mod SealedBlocks
 pub mod NamedBlocks
+pub mod SealedBytes

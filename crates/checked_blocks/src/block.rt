@@ -65,6 +65,14 @@ impl Block {
         Block { bytes: self.bytes }
     }
 
+    /// The block of these bytes.
+    pub(crate) fn from_sealed(bytes: &[u8; BLOCK_SIZE]) -> Block
+        requires { IsSealed bytes.now }
+        ensures { result ≡ bytes.now }
+    {
+        Block { bytes: *bytes }
+    }
+
     /// The check field, bytes 32 to 64, by which a pointer names the block.
     pub fn check(&self) -> [u8; 32]
         ensures { result ≡ part self.now 32 32 }
@@ -182,13 +190,13 @@ fn with_check(bytes: [u8; BLOCK_SIZE], check: [u8; 32]) -> Block
     Block { bytes }
 }
 
-fn zero_block() -> [u8; BLOCK_SIZE]
+pub(crate) fn zero_block() -> [u8; BLOCK_SIZE]
     ensures { result ≡ zeros block_size }
 {
     [0; BLOCK_SIZE]
 }
 
-fn write_head(bytes: &mut [u8], kind: u64, guid: u64, group: u64, number: u64)
+pub(crate) fn write_head(bytes: &mut [u8], kind: u64, guid: u64, group: u64, number: u64)
     requires { 64 ≤ length bytes.old }
     ensures head { bytes.new ≡ put 0 (block_head_bytes kind guid group number) bytes.old }
     ensures group_fits { group < 2 ^ 64 }

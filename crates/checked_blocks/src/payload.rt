@@ -116,7 +116,7 @@ pub fn are_expected(
 }
 
 // Whether `open` accepts a block whose check has to be this digest.
-fn is_expected(read: &ReadBlock<'_>, digest: &[u8; 32]) -> bool
+pub(crate) fn is_expected(read: &ReadBlock<'_>, digest: &[u8; 32]) -> bool
     requires { digest.now ≡ sha256 (hashed_bytes read.now.block.now) }
     ensures { IsTrue result ↔ IsExpected read.now.block.now read.now.expected.now }
 {
@@ -125,7 +125,7 @@ fn is_expected(read: &ReadBlock<'_>, digest: &[u8; 32]) -> bool
 }
 
 // The bytes that a block's check is made of: the block with zeros in place of its check.
-fn hashed(block: &[u8; BLOCK_SIZE]) -> [u8; BLOCK_SIZE]
+pub(crate) fn hashed(block: &[u8; BLOCK_SIZE]) -> [u8; BLOCK_SIZE]
     ensures { result ≡ hashed_bytes block.now }
 {
     let mut bytes = *block;

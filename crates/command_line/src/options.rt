@@ -104,7 +104,7 @@ pub(crate) const CACHE: Word = Word {
     name: "cache",
     form: Form::Valued("C", NUMBER),
     rule: Rule::Default("256"),
-    help: "The most tree blocks of 4096 bytes kept in memory: 1 to 4096",
+    help: "The most tree blocks of 4096 bytes kept in memory: 1 to 262144",
 };
 
 /// The dirty limit of `serve` and `bench`, that of the library: `DEFAULT_DIRTY_MAX` of `base`.

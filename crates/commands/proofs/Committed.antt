@@ -24,7 +24,7 @@ use Rattle.pool_threads.specs.declared.handle.Handle.{Handle}
 use Rattle.pool_threads.specs.Answers.{state_seen}
 use Rattle.pool_threads.specs.Handles.{view_seen}
 use Rattle.pool_threads.specs.Transacts.{Locks, LocksAndBegins, MakesTransaction, TransactsOrLacks, plan_of_ops}
-use Rattle.pool_threads.specs.Views.{GrowsTo, SeenPool, viewed_state}
+use Rattle.pool_threads.specs.Views.{SeenPool}
 use Rattle.pool_threads.specs.Waits.{AreDurable, SyncsPool}
 use Rattle.pool_threads.proofs.Along.{GoesAlong, along_made, along_on, along_same}
 use Rattle.pool_threads.proofs.TransactsSeen.{entered_by, transaction_grows}

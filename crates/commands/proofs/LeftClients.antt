@@ -1,6 +1,6 @@
 -- What callers take from the device that a command gives back: what is found of it after a crash.
 use Rattle.std.proofs.Common.{◌≡◌, ◌≢◌, ◌⊎◌, ◌∷◌, [], ℕ, List, ap, arith, inl, inr, refl, subst, ◌∙◌}
-use Rattle.std.specs.Prelude.{IsTrue, None, Option, Some}
+use Rattle.std.specs.Prelude.{IfSome, IsTrue, None, Option, Some}
 use Rattle.std.specs.FinMap as map
 use Rattle.std.proofs.Math.Logic.{∥∥₁_map}
 use Rattle.base.specs.declared.names.ObjectId.{ObjectId}
@@ -12,7 +12,7 @@ use Rattle.base.specs.kept.LeftDisks.{IsLeft}
 use Rattle.base.specs.steps.Explains.{IsLeftBy, MountsToCut}
 use Rattle.base.specs.tree.Mount.{MountsTo}
 use Rattle.base.proofs.crash.MountLaws.{own_disks_mount}
-use Rattle.running_pools.specs.LeftDevices.{HoldsContents, IsLeftUpon, LeavesContents, StillHolds}
+use Rattle.running_pools.specs.LeftDevices.{HoldsContents, IsLeftUpon, LeavesContents, LosesNothing, StillHolds}
 use Rattle.device_model.specs.declared.device.SectorDevice.{Ghosts}
 use Rattle.import_replay.specs.OwnCreations.{first_contents}
 use Rattle.pool_threads.specs.Handles.{LeavesSame}
@@ -81,6 +81,20 @@ module _ {Dev : Type 0} (G : Ghosts Dev) (device after : Dev) (keeps : IsTrue G.
       by (inl same) = ∣ (past, same past was, (λ c is. (c, is, refl))) ∣₁
       by (inr leaves) =
           ∥∥₁_map {B = (later : Past) × IsLeft later (G.disk after) × EightStays later} (leaves past was) (λ (later, so, left). (later, left.left, (λ c is. (later.base, left.base, (so c is).0 8 other))))
+
+-- what comes back from a command that loses nothing goes on from what an import would have found
+abbrev GoesOnFrom : Past → Past → Type 0
+GoesOnFrom past later = (c : Contents) → IsLeftBy later c → (base : Contents) × IsLeftBy past base
+
+pub lost_none : {Dev : Type 0} (G : Ghosts Dev) (device : Dev) (back : Option Dev) → IfSome back (LosesNothing G device)
+    → IfSome back (λ after. IsTrue G.keeps_model → (past : Past) → IsLeft past (G.disk device) → ∥ ((later : Past) × IsLeft later (G.disk after) × GoesOnFrom past later) ∥₁)
+lost_none G device None holds = tt
+lost_none G device (Some after) holds = λ keeps past was. by past was (holds keeps)
+  where
+    by : (past : Past) → IsLeft past (G.disk device) → LeavesSame (G.disk device) (G.disk after) ⊎ LeavesContents (λ base c. Unit {0}) (G.disk device) (G.disk after) → ∥ ((later : Past) × IsLeft later (G.disk after) × GoesOnFrom past later) ∥₁
+    by past was (inl same) = ∣ (past, same past was, (λ c is. (c, is))) ∣₁
+    by past was (inr leaves) =
+        ∥∥₁_map {B = (later : Past) × IsLeft later (G.disk after) × GoesOnFrom past later} (leaves past was) (λ (later, so, left). (later, left.left, (λ c is. (later.base, left.base))))
 
 -- a new pool has this name and no objects, whatever crash comes
 pub new_found : {Dev : Type 0} (G : Ghosts Dev) (name given : List ℕ) (guid moment : ℕ) (device after : Dev) → name ≡ given → IsTrue G.keeps_model → CreatesOn G name guid moment device after

@@ -1,7 +1,7 @@
 -- What a put and a removal leave of the contents: an import finds what all of their entries leave, and each entry
 -- changes the one object alone.
-use Rattle.std.proofs.Common.{◌≡◌, ◌≢◌, ◌+◌, ◌++◌, ◌∷◌, [], ℕ, zero, suc, List, Ok, Err, ap, append-nil, arith, drop, false, inl, inr, length, refl, subst, sym, take, true, ◌∙◌}
-use Rattle.std.specs.Prelude.{All, Bool, IsSome, IsTrue, None, Option, Result, Some, is_some, option_map, slice_get}
+use Rattle.std.proofs.Common.{◌≡◌, ◌≢◌, ◌+◌, ◌∷◌, [], ℕ, zero, suc, List, Ok, Err, ap, append-nil, arith, drop, false, inl, inr, length, refl, subst, sym, take, true, ◌∙◌}
+use Rattle.std.specs.Prelude.{All, Bool, IsSome, IsTrue, None, Option, Result, Some, option_map, slice_get}
 use Rattle.std.specs.FinMap as map
 use Rattle.std.proofs.Math.Logic.{∥∥₁_elim, ∥∥₁_map, ∥∥₁_prop}
 use Rattle.std.proofs.Math.Seq.{take-length}
@@ -19,7 +19,7 @@ use Rattle.base.specs.history.History.{Entry, apply_all}
 use Rattle.base.specs.history.Past.{Past}
 use Rattle.base.specs.history.Sequences.{in_turn}
 use Rattle.base.specs.steps.Refusals.{length_refusal}
-use Rattle.base.specs.steps.Runs.{Step, reply_of}
+use Rattle.base.specs.steps.Runs.{reply_of}
 use Rattle.base.specs.steps.Steps.{Answers, Never, State}
 use Rattle.base.proofs.common.KeptLists.{none_at}
 use Rattle.base.proofs.common.Sequences.{parted}
@@ -30,7 +30,6 @@ use Rattle.pool_threads.specs.declared.handle.LastSeen.{LastSeen}
 use Rattle.pool_threads.specs.declared.shared.Shared.{Shared}
 use Rattle.pool_threads.specs.Answers.{Makes, state_seen}
 use Rattle.pool_threads.specs.Handles.{OpensBehind, WasOf, kin_left, kin_of, opening_view, view_seen}
-use Rattle.pool_threads.specs.LongWrites.{writes_from}
 use Rattle.pool_threads.specs.Views.{SeenPool}
 use Rattle.pool_threads.specs.Waits.{SyncsPool}
 use Rattle.pool_threads.proofs.AloneSteps.{step_at_once}

@@ -1,12 +1,13 @@
 -- A device on which no pool is found has none, no label of it has a config, and a pool is named after its file.
-use Rattle.std.proofs.Common.{◌≡◌, ◌≤◌, ◌∷◌, [], ℕ, zero, suc, List, Ok, ap, arith, false, inl, inr, length, map, refl, subst, sym, take, true, ◌∙◌}
+use Rattle.std.proofs.Common.{◌≡◌, ◌≢◌, ◌≤◌, ◌∷◌, [], ℕ, zero, suc, List, Err, Ok, ap, arith, false, inl, inr, length, map, refl, subst, sym, take, true, ◌∙◌}
 use Rattle.std.specs.Int.{from_le_bytes, w64}
-use Rattle.std.specs.Prelude.{Bool, IfNone, IfOk, None, Option, Result, Some, codes, is_some}
+use Rattle.std.specs.Prelude.{Bool, IfErr, IfNone, IfOk, None, Option, Result, Some, codes, is_some}
 use Rattle.std.specs.Path.{path_file_name, path_file_stem, rsplit_once, split_last_component, trim_trailing}
 use Rattle.std.specs.Io.KnownBytes.{Appends}
 use Rattle.std.proofs.lemmas.Bool.{or_parts, true≢false}
 use Rattle.std.proofs.lemmas.List.{drop-drop}
 use Rattle.base.specs.declared.error.PoolError.{PoolError}
+use Rattle.base.specs.declared.error.PoolError.TheVariants.{BadGeometry, NoMemory, Read}
 use Rattle.base.specs.formats.Fields.{number_at}
 use Rattle.base.specs.formats.Geometry.{IsGeometry, block_count}
 use Rattle.base.specs.formats.Labels.{Config, HasNoConfig}
@@ -15,7 +16,7 @@ use Rattle.base.specs.history.Contents.{Contents}
 use Rattle.base.specs.tree.Mount.{HasNoPool, HasPool, IsTreeDamaged, MountsTo}
 use Rattle.base.proofs.crash.OneMount.{one-active}
 use Rattle.labels.specs.Configs.{IsConfigBlock}
-use Rattle.read_commands.specs.Checks.{IsFoundIn}
+use Rattle.read_commands.specs.Checks.{IsCheckRefusal, IsFoundIn}
 use Rattle.read_commands.specs.Failures.{sector_bytes}
 use Rattle.read_commands.specs.FoundLabels.{AreLabelStates, HasConfig, IsStateAt, IsStateOf, config_bytes_at}
 use Rattle.read_commands.specs.PoolLines.{created_line}
@@ -25,7 +26,7 @@ use Rattle.read_commands.specs.declared.label_states.ConfigState.{ConfigState}
 use Rattle.read_commands.specs.declared.label_states.ConfigState.TheVariants.{OtherSize, Unchecked, Whole, Zeroed}
 use Rattle.read_commands.specs.declared.label_states.LabelState.{LabelState}
 use Rattle.read_commands.proofs.PoolLines.{tank_created}
-use Rattle.commands.specs.Replaced.{HasNoConfigs, is_config, name_of_file, some_config}
+use Rattle.commands.specs.Replaced.{HasNoConfigs, IsLookRefusal, is_config, name_of_file, some_config}
 
 -- an image that has a pool is none without one
 no_pool_there : (image : List ℕ) (u : Uberblock) (name : List ℕ) → HasPool image u name → HasNoPool image → ⊥
@@ -114,9 +115,30 @@ no_geometry size is = (
 )
 
 -- what is false if it is so that something is none, is true if that is there
-pub found_if_there : (found : Bool) (There Free : Type 0) → (found ≡ false → Free) → (There → Free → ⊥) → There → found ≡ true
-found_if_there true There Free free not_free there = refl
-found_if_there false There Free free not_free there = absurd (not_free there (free refl))
+pub found_if_there : (found : Result Bool PoolError) (There Free : Type 0) → (found ≡ Ok false → Free) → (There → Free → ⊥) → There → IfOk found (λ f. f ≡ true)
+found_if_there (Ok true) There Free free not_free there = refl
+found_if_there (Ok false) There Free free not_free there = absurd (not_free there (free refl))
+found_if_there (Err e) There Free free not_free there = tt
+
+-- a check of a device that a pool may have is refused for memory or a read
+pub look_refusal : (size : ℕ) (e : PoolError) → e ≢ BadGeometry → IsCheckRefusal size e → IsLookRefusal e
+look_refusal size BadGeometry other is = absurd (other refl)
+look_refusal size NoMemory other is = inl refl
+look_refusal size Read other is = inr refl
+look_refusal size e other is = absurd is
+
+pub states_refused : {A : Type 0} (size : ℕ) (read : Result A PoolError) (e : PoolError) → read ≡ Err e → IsGeometry size → IfErr read (IsCheckRefusal size) → IsLookRefusal e
+states_refused {A = A} size read e is geometry refused = by e (subst (λ (r : Result A PoolError). IfErr r (IsCheckRefusal size)) is refused)
+  where
+    by : (f : PoolError) → IsCheckRefusal size f → IsLookRefusal f
+    by BadGeometry why = absurd (why geometry)
+    by NoMemory why = inl refl
+    by Read why = inr refl
+    by f why = absurd why
+
+pub found_refused : (size : ℕ) (found : Result Bool PoolError) → IsGeometry size → IfErr found (IsCheckRefusal size) → IfErr found IsLookRefusal
+found_refused size (Ok there) geometry refused = tt
+found_refused size (Err e) geometry refused = states_refused {A = Bool} size (Err e) e refl geometry refused
 
 -- a pool in this file is named after it
 tank_named : name_of_file (codes "pools/tank.pool") ≡ codes "tank"

@@ -1,3 +1,4 @@
+pub mod Asked
 pub mod Committed
 pub mod LeftContents
 pub mod NewPools

@@ -10,15 +10,12 @@ use Rattle.commands.specs.NameRefusals.{by_engine}
 use Rattle.commands.specs.TableReads.{ReadsTable}
 use Rattle.commands.specs.declared.named_steps.NameRefusal.{NameRefusal}
 use Rattle.commands.specs.declared.named_steps.NameRefusal.TheVariants.{Engine, Name}
+use Rattle.read_commands.specs.NamedObjects.{IsUnknown}
 use Rattle.read_commands.specs.declared.name_causes.NameCause.TheVariants.{NoTable}
 use Rattle.object_names.specs.NameTables.{IsNamed}
 use Rattle.pool_threads.specs.Handles.{IsNewHandle}
 use Rattle.pool_threads.specs.declared.handle.Handle.{Handle}
 use Rattle.pool_threads.specs.declared.shared.Shared.{Shared}
-
--- no object has this name in a table
-abbrev pub IsUnknown : List ℕ → List ℕ → Type 0
-IsUnknown table name = (n : ℕ) → IsNamed table n name → ⊥
 
 module _ {Dev : Type 0} {G : Ghosts Dev} where
   -- bytes were put into the object of this number, as a put by number does

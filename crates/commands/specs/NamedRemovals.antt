@@ -9,7 +9,7 @@ use Rattle.base.specs.steps.Runs.{reply_of}
 use Rattle.commands.specs.Committed.{MakesFirst, SyncsIfMade}
 use Rattle.device_model.specs.declared.device.SectorDevice.{Ghosts}
 use Rattle.commands.specs.NamedOps.{removal_ops}
-use Rattle.commands.specs.NamedPuts.{IsUnknown}
+use Rattle.read_commands.specs.NamedObjects.{IsUnknown}
 use Rattle.commands.specs.TableReads.{ReadsTable}
 use Rattle.commands.specs.declared.named_steps.NameRefusal.{NameRefusal}
 use Rattle.commands.specs.declared.named_steps.NameRefusal.TheVariants.{Engine, Name}

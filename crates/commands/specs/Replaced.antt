@@ -1,7 +1,9 @@
 -- The name of a new pool, and whether the device that it is to be made on has a pool already.
-use Rattle.std.specs.Prelude.{ℕ, ◌<◌, if◌then◌else◌, Bool, false, true, codes, List, None, Option, Some}
+use Rattle.std.specs.Prelude.{ℕ, ◌≡◌, ◌⊎◌, ◌<◌, if◌then◌else◌, Bool, false, true, codes, List, None, Option, Some}
 use Rattle.std.specs.List.{list_any}
 use Rattle.std.specs.Path.{path_file_stem}
+use Rattle.base.specs.declared.error.PoolError.{PoolError}
+use Rattle.base.specs.declared.error.PoolError.TheVariants.{NoMemory, Read}
 use Rattle.base.specs.formats.Fields.{part}
 use Rattle.base.specs.formats.Labels.{Config}
 use Rattle.base.specs.formats.Names.{is_name}
@@ -38,6 +40,10 @@ some_config states = list_any (λ (s : LabelState). is_config s.config) states
 -- no label of the image has a valid config
 abbrev pub HasNoConfigs : List ℕ → Type 0
 HasNoConfigs image = (label : ℕ) → label < 4 → HasConfig image label → ⊥
+
+-- a search for a pool is refused so: it isn't known whether there is one
+abbrev pub IsLookRefusal : PoolError → Type 0
+IsLookRefusal e = (e ≡ NoMemory) ⊎ (e ≡ Read)
 
 -- the image has no pool, and no label of one
 abbrev pub IsFree : List ℕ → Type 0

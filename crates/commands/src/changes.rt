@@ -92,6 +92,7 @@ impl Put {
     fn in_pieces(bytes: u64) -> Put
         ensures bytes { result.bytes ≡ bytes }
         ensures transactions { result.transactions ≡ (bytes + 64511) / 64512 }
+        ensures unsynced { result.is_synced ≡ false }
     {
         Put {
             bytes,
@@ -106,6 +107,7 @@ impl Put {
         requires transactions { self.old.transactions + 1 < 2 ^ 64 }
         ensures bytes { self.new.bytes ≡ self.old.bytes + bytes }
         ensures transactions { self.new.transactions ≡ self.old.transactions + 1 }
+        ensures unsynced { self.new.is_synced ≡ false }
     {
         self.bytes += bytes as u64;
         self.transactions += 1;
@@ -463,6 +465,7 @@ pub(crate) fn write_rest<R: Wait, D: SectorDevice>(
         result.1 handle.old handle.new }
     ensures size { result.0.bytes ≡ min (piece_size * result.0.transactions) (length bytes.now) }
     ensures few { result.0.transactions ≤ length bytes.now }
+    ensures unsynced { result.0.transactions ≢ 0 → result.0.is_synced ≡ false }
 {
     if bytes.is_empty() {
         return (Put::NOTHING, Ok(()));

@@ -1,6 +1,7 @@
 //! Whichever command that makes or changes a pool was asked for.
 
-ghost use Rattle.std.specs.Prelude.{◌≤◌};
+ghost use Rattle.std.specs.Prelude.{◌≡◌, ◌≢◌, ◌≤◌};
+ghost use Rattle.commands.specs.Asked.{MayBeDone};
 
 use crate::changes::{read_input, run_put, run_remove};
 use crate::named_puts::run_put_named;
@@ -19,7 +20,8 @@ use std::sync::Wait;
 /// Does a command that makes or changes a pool, and returns the exit status. A file that another process has is waited
 /// for as long as the options say. A put says on `errors` if it reads from a terminal, and its input is read before the
 /// file is opened: so nobody waits for an input with the file's lock. Failures are reported on `errors`, which is standard
-/// error. If that is a terminal, it shows how much was read and written after a second.
+/// error. If that is a terminal, it shows how much was read and written after a second. The status is 0 only if what the
+/// command was given is within its limits.
 pub fn run_change<R: Files + Input + Print + Eprint + AllocGlobal + Wait + Clock, E: Write>(
     rt: &R,
     command: ChangeCommand<'_>,
@@ -29,7 +31,9 @@ pub fn run_change<R: Files + Input + Print + Eprint + AllocGlobal + Wait + Clock
 ) -> u8
 where
     R::File: FileExt + HeldFile,
-    ensures { result ≤ 3 }
+    ensures done { result ≡ 0 → MayBeDone command.entry }
+    ensures range { result ≤ 3 }
+    ensures no_usage { result ≢ 2 }
 {
     let Options { verbosity, wait } = options;
     let line = ProgressLine::new(rt, shows_progress(verbosity, terminals));

@@ -4,6 +4,7 @@ ghost use Rattle.std.specs.Prelude.{◌≡◌, IfErr, IfOk, IsTrue};
 ghost use Rattle.commands.specs.Committed.{FailsToOpen, default_dirty_max};
 ghost use Rattle.commands.specs.NameRefusals.{IsNameFailureFor};
 ghost use Rattle.commands.specs.TableReads.{ReadsTable};
+ghost use Rattle.running_pools.specs.LeftDevices.{LosesNothing};
 ghost use Rattle.pool_threads.specs.Handles.{OpensBehind, opening_view, shared_of};
 
 use crate::changes::OWNER;
@@ -19,35 +20,31 @@ use std::sync::Wait;
 /// Opens the pool on a device.
 ///
 /// # Errors
-/// The refusal of the import, with the call that the device refused, if it was for that.
+/// The refusal of the import, with the call that the device refused, if it was for that. The device comes back.
 pub(crate) fn open_pool<D: SectorDevice + NotesRefusals + Drop>(
     alloc: Global,
     device: D,
     moment: u64,
-) -> Result<Pool<D>, Failure>
+) -> Result<Pool<D>, (Failure, D)>
     ensures opened { IfOk result (λ p. OpensBehind (IsTrue D.keeps_model) (D.disk device)
         default_dirty_max (opening_view (shared_of p))) }
-    ensures failed { IfErr result (FailsToOpen D.SectorDevice device moment) }
+    ensures failed { IfErr result (λ e. FailsToOpen D.SectorDevice device moment e.0) }
+    ensures still_held { IfErr result (λ e. LosesNothing D.SectorDevice device e.1) }
 {
     match Pool::open(alloc, device, Limits::DEFAULT, moment) {
         Ok(pool) => Ok(pool),
-        Err((refusal, device)) => Err(Failure::of_pool(refusal, &device)),
+        Err((refusal, device)) => Err((Failure::of_pool(refusal, &device), device)),
     }
 }
 
-/// Why a command was not done on a pool that refused it while it ran. The pool is closed.
-pub(crate) fn failure_of<D: SectorDevice + NotesRefusals + Drop>(
-    refusal: NameRefusal,
-    pool: Pool<D>,
-) -> NameFailure
+/// Why a command was not done on a pool that refused it while it ran, if the pool was closed since, and gave its device
+/// back.
+pub(crate) fn failure_of<D: NotesRefusals>(refusal: NameRefusal, device: &Option<D>) -> NameFailure
     ensures { IsNameFailureFor refusal result }
 {
     match refusal {
         NameRefusal::Name(cause) => NameFailure::Name(cause),
-        NameRefusal::Engine(refusal) => {
-            let device = pool.close().map(|state| state.into_device());
-            NameFailure::Plain(Failure::of_closed(refusal, &device))
-        }
+        NameRefusal::Engine(refusal) => NameFailure::Plain(Failure::of_closed(refusal, device)),
     }
 }
 

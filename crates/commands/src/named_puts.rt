@@ -5,8 +5,7 @@
 //! 3. The file is locked from the look-up to the last write, so no other process changes the table meanwhile.
 //! 4. A name that an object has is put as that object's number is. A new one is in `new_objects.rt`.
 
-ghost use Rattle.std.specs.Prelude.{◌≡◌, ◌≢◌, ◌≤◌, Err, IfErr, IfNone, IfOk, IfSome, IsErr, IsErrAnd, false, true};
-ghost use Rattle.commands.specs.Committed.{nothing_put};
+ghost use Rattle.std.specs.Prelude.{◌≡◌, ◌≢◌, ◌≤◌, IfNone, IfOk, IfSome, IsErr, IsErrAnd, false, true};
 ghost use Rattle.commands.specs.Puts.{is_target};
 ghost use Rattle.commands.specs.NamedCommands.{NamedPutEnds, PutsNamedAll, PutsNamedAndPrints, RefusesNamedPut};
 ghost use Rattle.commands.specs.NamedPuts.{PutsKnown, PutsNamed};
@@ -15,6 +14,7 @@ ghost use Rattle.read_commands.specs.NameFailures.{name_failure_status};
 ghost use Rattle.object_names.specs.NameTables.{IsNamed};
 ghost use Rattle.object_names.specs.Names as names;
 ghost use Rattle.pool_threads.specs.Handles.{shared_of};
+ghost use Rattle.running_pools.specs.LeftDevices.{LosesNothing};
 
 use crate::changes::{
     Put, STANDARD_INPUT, Target, bad_number_of, is_target, put_and_sync, report_committed,
@@ -31,6 +31,7 @@ use pool_threads::Pool;
 use read_commands::{
     Failure, NameCause, NameFailure, NotesRefusals, report_failure, report_name_failure,
 };
+use running_pools::close;
 use std::alloc::Global;
 use std::io::{self, Write};
 use std::sync::Wait;
@@ -81,66 +82,98 @@ pub fn run_put_named<
             return report_failure(failure, STANDARD_INPUT, verbosity, errors);
         }
     };
-    let (put, end) = put_named(rt, arguments, &input, opened);
+    match opened {
+        Ok(device) => {
+            let (status, _) = put_named_on(rt, arguments, verbosity, &input, device, out, errors);
+            status
+        }
+        Err(cause) => report_failure(Failure::Unusable(cause), arguments.file, verbosity, errors),
+    }
+}
+
+/// Writes bytes into the object of a name in the pool on a device as `run_put_named` does. It returns the exit status and
+/// the device, with the pool closed: `None` only if a thread was stopped while it had the pool.
+///
+/// Nothing is lost that was durable, whatever the status is.
+pub fn put_named_on<
+    R: Wait + AllocGlobal,
+    D: SectorDevice + NotesRefusals + Drop,
+    W: Write,
+    E: Write,
+>(
+    rt: &R,
+    arguments: PutNamedArguments<'_>,
+    verbosity: Verbosity,
+    bytes: &[u8],
+    device: D,
+    out: &mut W,
+    errors: &mut E,
+) -> (u8, Option<D>)
+    ensures target { is_named_target arguments.entry.name.now arguments.entry.offset bytes.now
+        ≡ false → result.0 ≡ 1 }
+    ensures put { result.0 ≡ 0 → PutsNamedAndPrints D.SectorDevice device
+        arguments.entry.name.now arguments.entry.offset bytes.now
+        (W.contents out.old) (W.contents out.new) }
+    ensures refused { result.0 ≡ 1 → RefusesNamedPut D.SectorDevice device
+        arguments.entry.moment arguments.entry.name.now arguments.entry.offset bytes.now }
+    ensures unwritten { result.0 ≡ 3 → PutsNamedAll D.SectorDevice device
+        arguments.entry.name.now arguments.entry.offset bytes.now }
+    ensures still_held { IfSome result.1 (LosesNothing D.SectorDevice device) }
+    ensures unprinted { result.0 ≡ 1 → W.contents out.new ≡ W.contents out.old }
+    ensures range { result.0 ≤ 3 }
+    ensures no_usage { result.0 ≢ 2 }
+{
+    let (put, end, device) = put_named(rt, arguments, bytes, device);
+    let PutNamedArguments { file, name, .. } = arguments;
     match end {
         Ok(()) => match writeln!(out, "put {put}") {
-            Ok(()) => 0,
-            Err(_) => report_failure(Failure::Unwritten, arguments.file, verbosity, errors),
+            Ok(()) => (0, device),
+            Err(_) => {
+                let status = report_failure(Failure::Unwritten, file, verbosity, errors);
+                (status, device)
+            }
         },
         Err(failure) => {
-            let status = report_name_failure(
-                failure,
-                arguments.name,
-                arguments.file,
-                verbosity,
-                errors,
-            );
+            let status = report_name_failure(failure, name, file, verbosity, errors);
             report_committed(&put, errors);
-            status
+            (status, device)
         }
     }
 }
 
-// Puts bytes into the object of a name in the pool on a device, and syncs it.
+// Puts bytes into the object of a name in the pool on a device, and syncs it. The pool is closed.
 fn put_named<R: Wait + AllocGlobal, D: SectorDevice + NotesRefusals + Drop>(
     rt: &R,
     arguments: PutNamedArguments<'_>,
     bytes: &[u8],
-    opened: Result<D, FileRefusal>,
-) -> (Put, Result<(), NameFailure>)
-    ensures unusable { IfErr opened (λ cause. (result.0 ≡ nothing_put)
-        × (result.1 ≡ Err (NameFailure.Plain (Failure.Unusable cause)))) }
-    ensures target { IfOk opened (λ _. is_named_target arguments.entry.name.now
-        arguments.entry.offset bytes.now ≡ false
-        → IsErrAnd result.1 (λ why. name_failure_status why ≡ 1)) }
-    ensures put { IfOk opened (λ device. NamedPutEnds D.SectorDevice device
-        arguments.entry.moment arguments.entry.name.now arguments.entry.offset bytes.now
-        result.0 result.1) }
+    device: D,
+) -> (Put, Result<(), NameFailure>, Option<D>)
+    ensures target { is_named_target arguments.entry.name.now arguments.entry.offset bytes.now
+        ≡ false → IsErrAnd result.1 (λ why. name_failure_status why ≡ 1) }
+    ensures put { NamedPutEnds D.SectorDevice device arguments.entry.moment
+        arguments.entry.name.now arguments.entry.offset bytes.now result.0 result.1 }
+    ensures still_held { IfSome result.2 (LosesNothing D.SectorDevice device) }
 {
-    let device = match opened {
-        Ok(device) => device,
-        Err(cause) => {
-            let failure = NameFailure::Plain(Failure::Unusable(cause));
-            return (Put::NOTHING, Err(failure));
-        }
-    };
     let given = NamedBytes {
         name: arguments.name,
         offset: arguments.offset,
         bytes,
     };
     if let Some(failure) = early_failure(given) {
-        return (Put::NOTHING, Err(failure));
+        return (Put::NOTHING, Err(failure), Some(device));
     }
     let alloc = rt.alloc();
     let pool = match open_pool(alloc, device, arguments.moment) {
         Ok(pool) => pool,
-        Err(failure) => return (Put::NOTHING, Err(NameFailure::Plain(failure))),
+        Err((failure, device)) => {
+            return (Put::NOTHING, Err(NameFailure::Plain(failure)), Some(device));
+        }
     };
     let (put, end) = put_by_name(rt, alloc, &pool, given);
+    let device = close(pool);
     match end {
-        Ok(()) => (put, Ok(())),
-        Err(refusal) => (put, Err(failure_of(refusal, pool))),
+        Ok(()) => (put, Ok(()), device),
+        Err(refusal) => (put, Err(failure_of(refusal, &device)), device),
     }
 }
 

@@ -4,12 +4,13 @@
 //! The file is locked from the look-up to the last write, so no other process changes the table of names meanwhile.
 
 ghost use Rattle.std.specs.Io.KnownBytes.{Appends};
-ghost use Rattle.std.specs.Prelude.{◌≡◌, ◌≢◌, ◌≤◌, Err, IfErr, IfOk, IsErr, false};
+ghost use Rattle.std.specs.Prelude.{◌≡◌, ◌≢◌, ◌≤◌, Err, IfOk, IfSome, IsErr, false};
 ghost use Rattle.commands.specs.NamedCommands.{NamedRemovalEnds, RefusesNamedRemoval, RemovesNamedAll, RemovesNamedAndPrints};
 ghost use Rattle.commands.specs.NamedOps.{removal_ops};
 ghost use Rattle.commands.specs.NamedRemovals.{RemovesNamed, RemovesWithName, is_there};
 ghost use Rattle.object_names.specs.Names as names;
 ghost use Rattle.pool_threads.specs.Handles.{shared_of};
+ghost use Rattle.running_pools.specs.LeftDevices.{LosesNothing};
 
 use crate::changes::first_refusal;
 use crate::named_pools::{failure_of, fetch_table, open_pool};
@@ -23,6 +24,7 @@ use pool_threads::{Handle, Pool};
 use read_commands::{
     Failure, NameCause, NameFailure, NotesRefusals, report_failure, report_name_failure,
 };
+use running_pools::close;
 use std::alloc::{AllocError, Global};
 use std::io::Write;
 use std::sync::Wait;
@@ -59,44 +61,87 @@ pub fn run_remove_named<
     ensures range { result ≤ 3 }
     ensures no_usage { result ≢ 2 }
 {
-    let RemoveNamedArguments { file, name, .. } = arguments;
-    match remove_named(rt, arguments, opened) {
-        Ok(object) => match writeln!(out, "removed {}", object.0) {
-            Ok(()) => 0,
-            Err(_) => report_failure(Failure::Unwritten, file, verbosity, errors),
-        },
-        Err(failure) => report_name_failure(failure, name, file, verbosity, errors),
+    match opened {
+        Ok(device) => {
+            let (status, _) = remove_named_on(rt, arguments, verbosity, device, out, errors);
+            status
+        }
+        Err(cause) => report_failure(Failure::Unusable(cause), arguments.file, verbosity, errors),
     }
 }
 
-// Removes the object of a name in the pool on a device, with its name, and syncs the pool. Returns the object's number.
+/// Removes the object of a name in the pool on a device as `run_remove_named` does. It returns the exit status and the
+/// device, with the pool closed: `None` only if a thread was stopped while it had the pool.
+///
+/// Nothing is lost that was durable, whatever the status is.
+pub fn remove_named_on<
+    R: Wait + AllocGlobal,
+    D: SectorDevice + NotesRefusals + Drop,
+    W: Write,
+    E: Write,
+>(
+    rt: &R,
+    arguments: RemoveNamedArguments<'_>,
+    verbosity: Verbosity,
+    device: D,
+    out: &mut W,
+    errors: &mut E,
+) -> (u8, Option<D>)
+    ensures no_name { names.is_name arguments.entry.name.now ≡ false → result.0 ≡ 1 }
+    ensures removed { result.0 ≡ 0 → RemovesNamedAndPrints D.SectorDevice device
+        arguments.entry.name.now (W.contents out.old) (W.contents out.new) }
+    ensures refused { result.0 ≡ 1 → RefusesNamedRemoval D.SectorDevice device
+        arguments.entry.moment arguments.entry.name.now }
+    ensures unwritten { result.0 ≡ 3 → RemovesNamedAll D.SectorDevice device
+        arguments.entry.name.now }
+    ensures still_held { IfSome result.1 (LosesNothing D.SectorDevice device) }
+    ensures unprinted { result.0 ≡ 1 → W.contents out.new ≡ W.contents out.old }
+    ensures range { result.0 ≤ 3 }
+    ensures no_usage { result.0 ≢ 2 }
+{
+    let (end, device) = remove_named(rt, arguments, device);
+    let RemoveNamedArguments { file, name, .. } = arguments;
+    match end {
+        Ok(object) => match writeln!(out, "removed {}", object.0) {
+            Ok(()) => (0, device),
+            Err(_) => {
+                let status = report_failure(Failure::Unwritten, file, verbosity, errors);
+                (status, device)
+            }
+        },
+        Err(failure) => {
+            let status = report_name_failure(failure, name, file, verbosity, errors);
+            (status, device)
+        }
+    }
+}
+
+// Removes the object of a name in the pool on a device, with its name, and syncs the pool, which is closed then. Returns
+// the object's number.
 fn remove_named<R: Wait + AllocGlobal, D: SectorDevice + NotesRefusals + Drop>(
     rt: &R,
     arguments: RemoveNamedArguments<'_>,
-    opened: Result<D, FileRefusal>,
-) -> Result<ObjectId, NameFailure>
-    ensures unusable { IfErr opened
-        (λ cause. result ≡ Err (NameFailure.Plain (Failure.Unusable cause))) }
+    device: D,
+) -> (Result<ObjectId, NameFailure>, Option<D>)
     ensures no_name { names.is_name arguments.entry.name.now ≡ false
-        → IfOk opened (λ _. result ≡ Err (NameFailure.Name NameCause.NoName)) }
-    ensures removed { IfOk opened (λ device. NamedRemovalEnds D.SectorDevice device
-        arguments.entry.moment arguments.entry.name.now result) }
+        → result.0 ≡ Err (NameFailure.Name NameCause.NoName) }
+    ensures removed { NamedRemovalEnds D.SectorDevice device arguments.entry.moment
+        arguments.entry.name.now result.0 }
+    ensures still_held { IfSome result.1 (LosesNothing D.SectorDevice device) }
 {
-    let device = match opened {
-        Ok(device) => device,
-        Err(cause) => return Err(NameFailure::Plain(Failure::Unusable(cause))),
-    };
     if !is_object_name(arguments.name.as_bytes()) {
-        return Err(NameFailure::Name(NameCause::NoName));
+        return (Err(NameFailure::Name(NameCause::NoName)), Some(device));
     }
     let alloc = rt.alloc();
     let pool = match open_pool(alloc, device, arguments.moment) {
         Ok(pool) => pool,
-        Err(failure) => return Err(NameFailure::Plain(failure)),
+        Err((failure, device)) => return (Err(NameFailure::Plain(failure)), Some(device)),
     };
-    match remove_by_name(rt, alloc, &pool, arguments.name) {
-        Ok(object) => Ok(object),
-        Err(refusal) => Err(failure_of(refusal, pool)),
+    let end = remove_by_name(rt, alloc, &pool, arguments.name);
+    let device = close(pool);
+    match end {
+        Ok(object) => (Ok(object), device),
+        Err(refusal) => (Err(failure_of(refusal, &device)), device),
     }
 }
 

@@ -19,7 +19,8 @@ use file_devices::HeldFile;
 use import_replay::create;
 use labels::{Geometry, LABEL_SIZE, MAX_SIZE, MIN_SIZE, SECTOR_SIZE};
 use read_commands::{
-    Failure, NewFile, NotesRefusals, Quoted, ShownDevice, ShownWork, report_failure, report_refusal,
+    Failure, FileName, NewFile, NotesRefusals, Quoted, ShownDevice, ShownWork, report_failure,
+    report_refusal,
 };
 use std::fmt;
 use std::io::{Eprint, Write};
@@ -53,6 +54,39 @@ where
     ensures range { result ≤ 3 }
     ensures no_usage { result ≢ 2 }
 {
+    make_in_file(rt, arguments, options, Replaced::Nothing, work, out, errors)
+}
+
+/// What a new pool replaces in its file, if standard error is to be told of it.
+#[derive(Clone, Copy)]
+pub(crate) enum Replaced {
+    /// Nothing that is told.
+    Nothing,
+    /// A pool.
+    Pool,
+}
+
+/// Makes a pool in a file as `run_create` does. If it replaces a pool, `errors` has a line that says so, once the file is
+/// open and has its size: a pool that can't be made replaces none.
+pub(crate) fn make_in_file<R: Files + Wait + Eprint + Clock, W: Write, E: Write>(
+    rt: &R,
+    arguments: CreateArguments<'_>,
+    options: Options,
+    replaced: Replaced,
+    work: &ShownWork<'_, R>,
+    out: &mut W,
+    errors: &mut E,
+) -> u8
+where
+    R::File: FileExt + HeldFile,
+    ensures size { is_geometry (sector_bytes arguments.entry.size) ≡ false → result ≡ 1 }
+    ensures name { is_name arguments.entry.name.now ≡ false → result ≡ 1 }
+    ensures created { result ≡ 0 → Appends (W.contents out.old) (W.contents out.new)
+        (created_line arguments.entry.name.now (block_count (sector_bytes arguments.entry.size))) }
+    ensures unprinted { result ≡ 1 → W.contents out.new ≡ W.contents out.old }
+    ensures range { result ≤ 3 }
+    ensures no_usage { result ≢ 2 }
+{
     let pool = match NewPool::new(arguments) {
         Ok(pool) => pool,
         Err(refusal) => {
@@ -62,6 +96,7 @@ where
     };
     match pool.file.create_within(rt, options.wait) {
         Ok(device) => {
+            report_replaced(replaced, arguments.file, errors);
             let shown = ShownDevice::new(device, work);
             let (status, _) = create_on(&pool, arguments, options.verbosity, shown, out, errors);
             status
@@ -70,6 +105,14 @@ where
             let failure = Failure::Unusable(cause);
             report_failure(failure, arguments.file, options.verbosity, errors)
         }
+    }
+}
+
+// Says on `errors` that a file's pool is replaced, if it is.
+fn report_replaced<E: Write>(replaced: Replaced, file: &str, errors: &mut E) {
+    if matches!(replaced, Replaced::Pool) {
+        let file = FileName(file);
+        let _ = writeln!(errors, "ztxg: {file} has a pool, which is replaced");
     }
 }
 

@@ -1,25 +1,27 @@
 //! The command `create` on a file that may have a pool already.
 //!
 //! 1. With `--size` a pool that is there is replaced with `--force` alone. With a name, a guid and a size it is
-//!    replaced, and standard error says so before.
-//! 2. A file has a pool if a check finds one, finds a damage, or can't end, or if a label has a config. In a file of a
-//!    size that no pool may have only the first label is looked at: a pool's file may have been cut or lengthened.
+//!    replaced, and standard error says so once the file has its size, before the first write.
+//! 2. A file has a pool if a check finds one or a damage, or if a label has a config. In a file of a size that no pool
+//!    may have only the first label is looked at: a pool's file may have been cut or lengthened. If the file can't be
+//!    read, nobody knows: with `--size` the command is refused so, and else nothing is said of a pool.
 //! 3. The file's lock is released between this test and the making. A file that wasn't there is made as a new one, so
 //!    none is replaced that came meanwhile.
 
 ghost use Rattle.std.specs.Io.KnownBytes.{Appends};
 ghost use Rattle.std.specs.Option.{option_copied};
-ghost use Rattle.std.specs.Prelude.{ℕ, ◌≡◌, ◌≢◌, ◌≤◌, IfErr, IfOk, IsTrue, false, true};
+ghost use Rattle.std.specs.Prelude.{ℕ, ◌≡◌, ◌≢◌, ◌≤◌, IfErr, IfOk, IsTrue, Ok, false, true};
 ghost use Rattle.base.specs.disk.Disk.{bytes_of};
 ghost use Rattle.base.specs.formats.Geometry.{IsGeometry, block_count, is_geometry};
 ghost use Rattle.base.specs.formats.Labels.{Config};
 ghost use Rattle.base.specs.formats.Names.{is_name};
-ghost use Rattle.commands.specs.Replaced.{HasFirstConfig, HasNoConfigs, IsFree, is_config, name_of_file, new_name, some_config};
+ghost use Rattle.commands.specs.Replaced.{HasFirstConfig, HasNoConfigs, IsFree, IsLookRefusal, is_config, name_of_file, new_name, some_config};
 ghost use Rattle.labels.specs.Configs.{IsConfigBlock};
+ghost use Rattle.read_commands.specs.Checks.{IsCheckRefusal};
 ghost use Rattle.read_commands.specs.Failures.{sector_bytes};
 ghost use Rattle.read_commands.specs.PoolLines.{created_line};
 
-use crate::pool_files::run_create;
+use crate::pool_files::{Replaced, make_in_file, run_create};
 use base::{BLOCK_SIZE, PoolError, PoolName, read_u64};
 use command_arguments::{CreateArguments, Options, SizedArguments, Verbosity};
 use device_model::SectorDevice;
@@ -48,8 +50,8 @@ const FIRST_CONFIG_SECTORS: u64 = 40;
 /// Where the block of a config has the size of its device.
 const SIZE_AT: usize = 72;
 
-/// Makes a pool in a file as `run_create` does. If the file has a pool, `errors` has a line that says so before, unless
-/// it is to be quiet. What is read and written is added to `work`. Returns the exit status.
+/// Makes a pool in a file as `run_create` does. If the file has a pool that is replaced, `errors` has a line that says so
+/// before, unless it is to be quiet. What is read and written is added to `work`. Returns the exit status.
 pub fn run_create_over<R: Files + Wait + AllocGlobal + Eprint + Clock, W: Write, E: Write>(
     rt: &R,
     arguments: CreateArguments<'_>,
@@ -68,12 +70,12 @@ where
     ensures range { result ≤ 3 }
     ensures no_usage { result ≢ 2 }
 {
-    let options = if may_warn(&arguments, options.verbosity) {
-        warn_of_pool(rt, arguments.file, options, work, errors)
+    if may_warn(&arguments, options.verbosity) {
+        let (replaced, options) = look_for_pool(rt, arguments.file, options, work);
+        make_in_file(rt, arguments, options, replaced, work, out, errors)
     } else {
-        options
-    };
-    run_create(rt, arguments, options, work, out, errors)
+        run_create(rt, arguments, options, work, out, errors)
+    }
 }
 
 // Whether a pool may be replaced that standard error is to tell of.
@@ -83,28 +85,26 @@ fn may_warn(arguments: &CreateArguments<'_>, verbosity: Verbosity) -> bool {
         && is_possible(arguments.size, arguments.name)
 }
 
-// Says on `errors` if a file has a pool. Returns what is left of the options: it isn't waited for a file twice.
-fn warn_of_pool<R: Files + Wait + AllocGlobal + Eprint + Clock, E: Write>(
+// Whether a file has a pool, and what is left of the options: it isn't waited for a file twice.
+fn look_for_pool<R: Files + Wait + AllocGlobal + Eprint + Clock>(
     rt: &R,
     file: &str,
     options: Options,
     work: &ShownWork<'_, R>,
-    errors: &mut E,
-) -> Options
+) -> (Replaced, Options)
 where
     R::File: FileExt + HeldFile,
 {
     match find_held(rt, file, options.wait, work) {
-        Ok(Held::Pool) => {
-            let file = FileName(file);
-            let _ = writeln!(errors, "ztxg: {file} has a pool, which is replaced");
-            options
+        Ok(Held::Pool) => (Replaced::Pool, options),
+        Err(Failure::Unusable(FileRefusal::InUse)) => {
+            let options = Options {
+                verbosity: options.verbosity,
+                wait: 0,
+            };
+            (Replaced::Nothing, options)
         }
-        Err(FileRefusal::InUse) => Options {
-            verbosity: options.verbosity,
-            wait: 0,
-        },
-        _ => options,
+        _ => (Replaced::Nothing, options),
     }
 }
 
@@ -113,7 +113,8 @@ where
 /// the exit status.
 ///
 /// Beside those of `run_create` the status is 3 if the file has a pool, be it damaged, and `force` isn't given; the
-/// cause says so, and the file is unchanged. A file that isn't there is made as a new one.
+/// cause says so, and the file is unchanged. So it is if the device refuses to be read before, with the status 1. A file
+/// that isn't there is made as a new one.
 pub fn run_create_sized<R: Files + Wait + AllocGlobal + Eprint + Clock, W: Write, E: Write>(
     rt: &R,
     arguments: SizedArguments<'_>,
@@ -150,10 +151,7 @@ where
         Ok(Held::Pool) => report_pool(arguments.file, options.verbosity, errors),
         Ok(Held::NoPool) => run_create(rt, create, options, work, out, errors),
         Ok(Held::NoFile) => run_create(rt, only_as_new(create), options, work, out, errors),
-        Err(cause) => {
-            let failure = Failure::Unusable(cause);
-            report_failure(failure, arguments.file, options.verbosity, errors)
-        }
+        Err(failure) => report_failure(failure, arguments.file, options.verbosity, errors),
     }
 }
 
@@ -227,60 +225,66 @@ enum Held {
     Pool,
 }
 
-// What is at a path. The file is opened as for a new pool, so none is found that can't be replaced. Its lock is released
-// before it returns.
+// What is at a path, or why that isn't known. The file is opened as for a new pool, so none is found that can't be
+// replaced. Its lock is released before it returns.
 fn find_held<R: Files + Wait + AllocGlobal + Eprint + Clock>(
     rt: &R,
     path: &str,
     wait: u32,
     work: &ShownWork<'_, R>,
-) -> Result<Held, FileRefusal>
+) -> Result<Held, Failure>
 where
     R::File: FileExt + HeldFile,
 {
     match open_within(rt, path, Access::Write, wait) {
         Ok(device) => {
             let mut shown = ShownDevice::new(device, work);
-            if has_pool(rt.alloc(), &mut shown) {
-                Ok(Held::Pool)
-            } else {
-                Ok(Held::NoPool)
+            match has_pool(rt.alloc(), &mut shown) {
+                Ok(true) => Ok(Held::Pool),
+                Ok(false) => Ok(Held::NoPool),
+                Err(refusal) => Err(Failure::of_pool(refusal, &shown)),
             }
         }
         Err(FileRefusal::System(error)) if error.kind() == ErrorKind::NotFound => Ok(Held::NoFile),
-        Err(refusal) => Err(refusal),
+        Err(cause) => Err(Failure::Unusable(cause)),
     }
 }
 
 /// Whether a device has a pool, be it damaged. It makes no write and no flush.
-pub(crate) fn has_pool<D: SectorDevice>(alloc: Global, device: &mut D) -> bool
+///
+/// # Errors
+/// `NoMemory` and `Read` when they happen: then it isn't known.
+pub(crate) fn has_pool<D: SectorDevice>(alloc: Global, device: &mut D) -> Result<bool, PoolError>
     ensures unchanged { IsTrue D.keeps_model → D.disk device.new ≡ D.disk device.old }
-    ensures free { result ≡ false → IsTrue D.keeps_model → IsGeometry (D.size device.old)
+    ensures free { result ≡ Ok false → IsTrue D.keeps_model → IsGeometry (D.size device.old)
         → IsFree (bytes_of (D.disk device.old).now) }
-    ensures no_label { result ≡ false → IsTrue D.keeps_model
+    ensures no_label { result ≡ Ok false → IsTrue D.keeps_model
         → (IsGeometry (D.size device.old) → ⊥) → 20480 ≤ D.size device.old
         → HasFirstConfig (bytes_of (D.disk device.old).now) → ⊥ }
+    ensures refused { IfErr result IsLookRefusal }
 {
     match check_pool(alloc, device) {
         Ok(Finding::NoPool) => has_config(device),
+        Ok(Finding::Clean { .. } | Finding::Damaged { .. }) => Ok(true),
         Err(PoolError::BadGeometry) => has_first_config(device),
-        _ => true,
+        Err(refusal) => Err(refusal),
     }
 }
 
-// Whether the first label of a device has a config, be it for a device of another size, or can't be read.
-fn has_first_config<D: SectorDevice>(device: &mut D) -> bool
+// Whether the first label of a device has a config, be it for a device of another size.
+fn has_first_config<D: SectorDevice>(device: &mut D) -> Result<bool, PoolError>
     ensures unchanged { IsTrue D.keeps_model → D.disk device.new ≡ D.disk device.old }
-    ensures none { result ≡ false → IsTrue D.keeps_model → 20480 ≤ D.size device.old
+    ensures none { result ≡ Ok false → IsTrue D.keeps_model → 20480 ≤ D.size device.old
         → HasFirstConfig (bytes_of (D.disk device.old).now) → ⊥ }
+    ensures refused { IfErr result IsLookRefusal }
 {
     if device.sectors() < FIRST_CONFIG_SECTORS {
-        return false;
+        return Ok(false);
     }
     let mut block = [0; BLOCK_SIZE];
     match device.read(FIRST_CONFIG_AT, &mut block[..]) {
-        Ok(()) => is_config_block(&block),
-        Err(_) => true,
+        Ok(()) => Ok(is_config_block(&block)),
+        Err(refusal) => Err(refusal),
     }
 }
 
@@ -291,15 +295,16 @@ fn is_config_block(block: &[u8; BLOCK_SIZE]) -> bool
     LabelConfig::decode(block, read_u64(block, SIZE_AT)).is_some()
 }
 
-// Whether a label of a device has a config, be it for a device of another size, or can't be read.
-fn has_config<D: SectorDevice>(device: &mut D) -> bool
+// Whether a label of a device has a config, be it for a device of another size.
+fn has_config<D: SectorDevice>(device: &mut D) -> Result<bool, PoolError>
     ensures unchanged { IsTrue D.keeps_model → D.disk device.new ≡ D.disk device.old }
-    ensures none { result ≡ false → IsTrue D.keeps_model
+    ensures none { result ≡ Ok false → IsTrue D.keeps_model
         → HasNoConfigs (bytes_of (D.disk device.old).now) }
+    ensures refused { IfErr result (IsCheckRefusal (D.size device.old)) }
 {
     match read_states(device) {
-        Ok(states) => is_some_config(&states),
-        Err(_) => true,
+        Ok(states) => Ok(is_some_config(&states)),
+        Err(refusal) => Err(refusal),
     }
 }
 

@@ -1,8 +1,6 @@
 -- Operations that are judged one after another, by whether each object is there.
-use Rattle.std.proofs.Common.{◌≡◌, ℕ, suc, replicate, ◌<◌, ◌+◌, List, [], ◌∷◌, ◌++◌, Option, Some, None, Result, Ok, Err, refl, ap, sym, ◌∙◌, ◌⊎◌, inl, inr, true, false, Bool, cond, arith, length, take, drop, subst, Fits, w8}
-use Rattle.std.specs.Prelude.{◌==◌, ◌||◌, ◌&&◌, not, is_some, get_or, nat_lt, option_map, fold, IfOk}
-use Rattle.std.specs.List.{list_all}
-use Rattle.std.proofs.lemmas.Bool.{and_from, lt-ltb}
+use Rattle.std.proofs.Common.{◌≡◌, ℕ, replicate, ◌<◌, ◌+◌, List, [], ◌∷◌, ◌++◌, Option, Some, None, Result, Ok, Err, refl, ap, sym, ◌∙◌, ◌⊎◌, inl, inr, true, false, Bool, cond, length, take, drop, subst}
+use Rattle.std.specs.Prelude.{◌==◌, ◌||◌, ◌&&◌, not, is_some, get_or, option_map, fold, IfOk}
 use Rattle.std.proofs.lemmas.List.{append-nil, get_or-replicate, take_more, take-append-drop}
 use Rattle.std.specs.Ordering.{nat_cmp}
 use Rattle.std.specs.FinMap as finite
@@ -191,8 +189,3 @@ judged_refused ops i op c e low is h =
     let front : take (i + 1) ops ≡ take i ops ++ op ∷ [] = take_more ops i op low ∙ ap (λ (x : Op). take i ops ++ x ∷ []) (sym is) in
     let whole : ops ≡ (take i ops ++ op ∷ []) ++ drop (i + 1) ops = sym (take-append-drop (i + 1) ops) ∙ ap (λ l. l ++ drop (i + 1) ops) front in
     ap (λ l. apply_all l c) whole ∙ err-append (take i ops ++ op ∷ []) (drop (i + 1) ops) c e h
-
--- elements of bytes are bytes
-pub all_bytes : (xs : List ℕ) → ((i : ℕ) → Fits w8 (get_or xs i 0)) → list_all (λ b. nat_lt b 256) xs ≡ true
-all_bytes [] fit = refl
-all_bytes (x ∷ xs) fit = let first : Fits w8 x = fit 0 in and_from (nat_lt x 256) (list_all (λ b. nat_lt b 256) xs) (lt-ltb x 256 (omega (arith, first))) (all_bytes xs (λ i. fit (suc i)))

@@ -1,3 +1,1 @@
-pub mod ContentsShown
 pub mod Judged
-pub mod Bytes

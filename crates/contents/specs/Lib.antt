@@ -2,4 +2,3 @@ pub mod Ops
 pub mod Presence
 pub mod ContentsShown
 pub mod Judging
-pub mod Bytes

@@ -1,10 +1,9 @@
-//! The contents of a pool: its name and the length of each object, and which operations can take place on them.
+//! The contents of a pool as they were last synced, its name and its tree, and which operations can take place on
+//! objects.
 #![tactic(auto)]
 
-mod contents;
 mod judging;
-mod told_bytes;
+mod synced_tree;
 
-pub use contents::{Contents, Slot, empty_slots};
 pub use judging::judge;
-pub use told_bytes::{BytesView, no_bytes, with_bytes, zero_bytes};
+pub use synced_tree::SyncedTree;

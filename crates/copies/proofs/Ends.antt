@@ -1,13 +1,15 @@
 -- How a copy ends: its failure, or what it copied and the lines of what it didn't.
-use Rattle.std.proofs.Common.{◌≡◌, ◌∷◌, ◌++◌, ◌∙◌, [], ℕ, List, Option, ap, false, inl, inr, refl, subst, sym, true}
+use Rattle.std.proofs.Common.{◌≡◌, ◌≢◌, ◌∷◌, ◌++◌, ◌∙◌, [], ℕ, List, Option, ap, false, inl, inr, refl, subst, sym, true}
 use Rattle.std.specs.Prelude.{Bool, IsTrue, ◌&&◌}
 use Rattle.std.specs.Io.KnownBytes.{Appends}
 use Rattle.std.specs.List.{flat_map, list_all}
 use Rattle.std.proofs.lemmas.Bool.{true≢false}
 use Rattle.base.specs.declared.error.PoolError.{PoolError}
 use Rattle.base.specs.declared.names.ObjectId.{ObjectId}
-use Rattle.base.specs.disk.Disk.{Disk}
+use Rattle.base.specs.disk.Disk.{Disk, bytes_of}
 use Rattle.base.specs.formats.Limits.{object_count}
+use Rattle.base.specs.history.Contents.{Contents}
+use Rattle.base.specs.tree.Mount.{MountsTo}
 use Rattle.file_devices.specs.declared.held_file.FileRefusal.{FileRefusal}
 use Rattle.inspections.specs.PoolDamages.{IsOfNoDamage}
 use Rattle.read_commands.specs.Failures.{IsFailureFor, failure_status}
@@ -17,7 +19,7 @@ use Rattle.copies.specs.Copies.{IsObjectStep, ObjectStep, RecordStep, is_copied,
 use Rattle.copies.specs.Copies.ObjectStep.{Passed, Viewed}
 use Rattle.copies.specs.Copies.RecordStep.{Hole, Lost, Written}
 use Rattle.copies.specs.NewPools.{CopiesAll}
-use Rattle.copies.specs.Statuses.{IsCopyFailure, IsFailureOf}
+use Rattle.copies.specs.Statuses.{IsCopyFailure, IsFailureOf, IsStopFailure}
 use Rattle.copies.specs.Stops.{IsStopOf}
 use Rattle.copies.specs.declared.stop.Stop.{Stop}
 use Rattle.copies.specs.declared.stop.Stop.TheVariants as stop
@@ -68,6 +70,12 @@ module _ (keeps : Bool) (a b : Disk) (same : IsTrue keeps → a ≡ b) (skips : 
   pub failure_moved : (why : Failure) → IsCopyFailure keeps a skips why → IsCopyFailure keeps b skips why
   failure_moved why (inl unusable) = inl unusable
   failure_moved why (inr (s, is, failed)) = inr (s, stop_moved keeps a b same skips s is, failed)
+
+-- nothing is missing of what mounts, so no line fails to be written
+pub not_unwritten : (keeps : Bool) (disk : Disk) (skips : Bool) → IsTrue keeps → (contents : Contents) → MountsTo (bytes_of disk.now) contents → (why : Failure) → IsStopFailure keeps disk skips why → why ≢ Unwritten
+not_unwritten keeps disk skips kept contents mounts why (stop.Old e, of, is) = λ same. subst (λ (w : Failure). IsFailureFor e w) same is
+not_unwritten keeps disk skips kept contents mounts why (stop.New e, of, is) = λ same. subst (λ (w : Failure). IsFailureFor e w) same is
+not_unwritten keeps disk skips kept contents mounts why (stop.Unwritten, (passes, none), is) = λ same. none kept contents mounts
 
 -- no failure has the status of a copy of all
 pub never_zero : (why : Failure) → failure_status why ≡ 0 → ⊥

@@ -50,7 +50,7 @@ module _ (keeps : Bool) (a b : Disk) (same : IsTrue keeps → a ≡ b) where
   pub stop_moved : (skips : Bool) (s : Stop) → IsStopOf keeps a skips s → IsStopOf keeps b skips s
   stop_moved skips (stop.Old e) is = λ kind address damaged. (let h = is kind address damaged in (h.0, λ k. subst (λ (d : Disk). MountsNone (bytes_of d.now)) (same k) (h.1 k)))
   stop_moved skips (stop.New e) is = tt
-  stop_moved skips stop.Unwritten is = tt
+  stop_moved skips stop.Unwritten (passes, none) = (passes, λ k. subst (λ (d : Disk). MountsNone (bytes_of d.now)) (same k) (none k))
 
   module _ {Dev : Type 0} {G : Ghosts Dev} where
     goes_moved : {S : Type 0} (P Q : ℕ → S → ℕ → Type 0) → ((x : ℕ) (s : S) (y : ℕ) → P x s y → Q x s y) → (writes : S → List (List Op)) (lines : S → List ℕ) (is_whole : S → Bool) (skips : Bool) (from to : ℕ) (whole : Bool) (h i : Handle Dev G) (o p : Option (List ℕ))

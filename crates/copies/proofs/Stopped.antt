@@ -1,5 +1,5 @@
 -- Why a copy ends before its end, by what a look was refused for.
-use Rattle.std.proofs.Common.{◌≡◌, ◌≢◌, ℕ, inl, inr, refl, subst, sym, ◌∙◌}
+use Rattle.std.proofs.Common.{◌≡◌, ◌≢◌, ℕ, inl, inr, refl, subst, sym, true, ◌∙◌}
 use Rattle.std.specs.Prelude.{Bool, IsTrue}
 use Rattle.base.specs.declared.error.PoolError.{PoolError}
 use Rattle.base.specs.declared.error.PoolError.TheVariants.{BadGeometry, BadRange, Damaged, Flush, NoMemory, NoObject, NoPool, Read, Write}
@@ -14,7 +14,7 @@ use Rattle.trees.specs.declared.damages.BlockDamage.{BlockDamage}
 use Rattle.copies.specs.ReadRecords.{IsPlainRefusal, MountsNone}
 use Rattle.copies.specs.Stops.{IsStopFor, IsStopOf}
 use Rattle.copies.specs.declared.stop.Stop.{Stop}
-use Rattle.copies.specs.declared.stop.Stop.TheVariants.{Old}
+use Rattle.copies.specs.declared.stop.Stop.TheVariants.{Old, Unwritten}
 
 -- what a look is refused for is no write and no flush
 reader : (e f : PoolError) → e ≡ f → f ≢ Write → f ≢ Flush → IsReadersRefusal e
@@ -53,4 +53,8 @@ module _ (keeps : Bool) (disk : Disk) (skips : Bool) where
 
   pub stop_for : (d : BlockDamage) (s : Stop) → IsStopFor d skips s → (IsTrue keeps → MountsNone (bytes_of disk.now)) → IsStopOf keeps disk skips s
   stop_for d s (inl (never, is)) none = subst (λ (t : Stop). IsStopOf keeps disk skips t) (sym is) (λ kind address same. (never, none))
-  stop_for d s (inr is) none = subst (λ (t : Stop). IsStopOf keeps disk skips t) (sym is) tt
+  stop_for d s (inr (passes, is)) none = subst (λ (t : Stop). IsStopOf keeps disk skips t) (sym is) (passes, none)
+
+  -- a line wasn't written of a damage that is passed over
+  pub unwritten_stop : (s : Stop) → s ≡ Unwritten → skips ≡ true → (IsTrue keeps → MountsNone (bytes_of disk.now)) → IsStopOf keeps disk skips s
+  unwritten_stop s is passes none = subst (λ (t : Stop). IsStopOf keeps disk skips t) (sym is) (passes, none)

@@ -18,9 +18,13 @@ IsFailureOf (stop.Old e) why = IsFailureFor e why
 IsFailureOf (stop.New e) why = IsFailureFor e why
 IsFailureOf stop.Unwritten why = why ≡ Unwritten
 
--- The new file can't be used; or the copy ended so before its end, by what was read of a pool on this disk.
+-- a copy ended so before its end, by what was read of a pool on this disk
+abbrev pub IsStopFailure : Bool → Disk → Bool → Failure → Type 0
+IsStopFailure keeps disk skips why = (s : Stop) × IsStopOf keeps disk skips s × IsFailureOf s why
+
+-- so it did, or the new file can't be used
 abbrev pub IsCopyFailure : Bool → Disk → Bool → Failure → Type 0
-IsCopyFailure keeps disk skips why = ((cause : FileRefusal) × (why ≡ Unusable cause)) ⊎ ((s : Stop) × IsStopOf keeps disk skips s × IsFailureOf s why)
+IsCopyFailure keeps disk skips why = ((cause : FileRefusal) × (why ≡ Unusable cause)) ⊎ IsStopFailure keeps disk skips why
 
 module _ {Dev : Type 0} (D : Ghosts Dev) where
   -- what of a device's pool was copied

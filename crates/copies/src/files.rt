@@ -6,10 +6,14 @@
 ghost use Rattle.std.specs.Prelude.{◌≡◌, ◌≢◌, ◌≤◌, IfErr, IfOk, IfSome, IsErr, IsSome, IsTrue, false};
 ghost use Rattle.base.specs.disk.Disk.{bytes_of};
 ghost use Rattle.base.specs.formats.Geometry.{is_geometry};
+ghost use Rattle.base.specs.history.Contents.{Contents};
+ghost use Rattle.base.specs.tree.Mount.{MountsTo};
+ghost use Rattle.object_views.specs.PoolNames.{name_of};
 ghost use Rattle.object_views.specs.PoolPaths.{AreFoundOn, ArePathsOf};
 ghost use Rattle.read_commands.specs.Checks.{IsOnlyRead, StaysOpened};
 ghost use Rattle.read_commands.specs.Failures.{sector_bytes};
-ghost use Rattle.copies.specs.Statuses.{CopiesOf, IsCopied, IsCopyFailure, IsPartlyCopied, IsFailureOf};
+ghost use Rattle.copies.specs.NewPools.{IsCopy};
+ghost use Rattle.copies.specs.Statuses.{CopiesOf, IsCopied, IsCopyFailure, IsPartlyCopied, IsFailureOf, IsStopFailure};
 
 use crate::copying::{NewPool, copy_into};
 use crate::stop::Stop;
@@ -205,6 +209,36 @@ where
         Ok(new) => ShownDevice::new(new, work),
         Err(cause) => return Err(Failure::Unusable(cause)),
     };
+    let (copied, _) = copy_on(rt, arguments, paths, old, new, out);
+    copied
+}
+
+/// Copies what can be read of the pool of these paths on the old device into a new pool on another one, with the name that
+/// is mounted of the old one. Returns whether that was all, and the new device, with the pool closed.
+pub(crate) fn copy_on<
+    R: Wait + AllocGlobal,
+    D: SectorDevice + NotesRefusals,
+    N: SectorDevice + NotesRefusals + Drop,
+    W: Write,
+>(
+    rt: &R,
+    arguments: CopyArguments<'_>,
+    paths: &PoolPaths,
+    old: &mut D,
+    new: N,
+    out: &mut W,
+) -> (Result<bool, Failure>, N)
+    requires fits { AreFoundOn (D.size old.old) paths.now }
+    requires paths { IsTrue D.keeps_model → ArePathsOf (bytes_of (D.disk old.old).now) paths.now }
+    ensures reads { IsOnlyRead D.SectorDevice old.old old.new }
+    ensures copied { IfOk result.0 (λ whole. IsCopy N.SectorDevice D.keeps_model (D.disk old.old)
+        (name_of paths.now) arguments.entry.skips_damaged whole result.1
+        (W.contents out.old) (W.contents out.new)) }
+    ensures named { IsTrue D.keeps_model → (contents : Contents)
+        → MountsTo (bytes_of (D.disk old.old).now) contents → name_of paths.now ≡ contents.name }
+    ensures failed { IfErr result.0 (IsStopFailure D.keeps_model (D.disk old.old)
+        arguments.entry.skips_damaged) }
+{
     let pool = NewPool {
         name: paths.name(),
         guid: arguments.guid,
@@ -212,8 +246,8 @@ where
     };
     let (end, new) = copy_into(rt, paths, pool, arguments.skips_damaged, old, new, out);
     match end {
-        Ok(is_whole) => Ok(is_whole),
-        Err(stop) => Err(failure_of(stop, old, &new)),
+        Ok(is_whole) => (Ok(is_whole), new),
+        Err(stop) => (Err(failure_of(stop, old, &new)), new),
     }
 }
 

@@ -3,3 +3,4 @@ pub mod RisingSteps
 pub mod FrontsBetween
 pub mod OverCalls
 pub mod RisingCalls
+mod TwoTransactions

@@ -1,6 +1,6 @@
 -- What holds of each step of a handle, and goes on from one step to the next, holds of each of its calls, if it is the
 -- only handle of its pool.
-use Rattle.std.proofs.Common.{◌≡◌, ◌++◌, ◌∷◌, [], ℕ, Bool, List, Ok, Err, ap, false, if◌then◌else◌, inl, inr, refl, subst, true, ◌∙◌, ◌⊎◌}
+use Rattle.std.proofs.Common.{◌≡◌, ◌++◌, ◌∷◌, [], ℕ, Bool, List, Ok, Err, ap, false, if◌then◌else◌, inl, inr, refl, subst, true, ◌∙◌}
 use Rattle.std.specs.Prelude.{◌||◌, All, IfSome, IsTrue, None, Option, Result, Some, is_none, is_some, nat_le}
 use Rattle.std.proofs.lemmas.List.Elements.{All-head, All-tail}
 use Rattle.base.specs.declared.error.PoolError.{PoolError}
@@ -30,7 +30,7 @@ use Rattle.pool_tables.specs.declared.duty.Duty.TheVariants as duty
 use Rattle.pool_tables.specs.Duties.{closing_step, due_step, is_log_pending, is_quiescent, log_step, quiescing_step, step_to_sync, step_up_to, syncing_step, wants_close}
 use Rattle.pool_threads.specs.declared.handle.Handle.{Handle}
 use Rattle.pool_threads.specs.Answers.{Makes, MakesAtLast, TakesAtLast, TakesOne}
-use Rattle.pool_threads.specs.Fetches.{Fetches, ReadsUnderLock, reader_step}
+use Rattle.pool_threads.specs.Fetches.{Fetches, IsFetchTurn, ReadsUnderLock, reader_step}
 use Rattle.pool_threads.specs.Handles.{HasLooked, kin_of, moment_of, view_seen}
 use Rattle.pool_threads.specs.Serves.{AreDue, IsDutyTurn, IsRefusedTurn, IsServedTurn, MakesDue, due_of}
 use Rattle.pool_threads.specs.Loops.{Works, WorksUntil}
@@ -38,7 +38,7 @@ use Rattle.pool_threads.specs.LongWrites.{TransactsInOrder, WritesInPieces, writ
 use Rattle.pool_threads.specs.Transacts.{BeginsAndEnds, Ends, IsEarlierTurn, IsLastTurn, Locks, LocksAndEnds, MakesTransaction, StopsAtLock, TransactsAtLast, TransactsDurably, TransactsLockedOrLacks, TransactsOrLacks, TransactsThenWaits, Unlocks, lock_step, plan_of_ops}
 use Rattle.pool_threads.specs.Turns.{AreUnbroken, IsStepTurn}
 use Rattle.pool_threads.specs.Views.{IsPoolStep, SeenPool, viewed_state}
-use Rattle.pool_threads.specs.Waits.{EndsAfter, EndsFsync, EndsSyncing, FindsReceipt, FsyncsAll, IsSyncTurn, Leads, LooksAt, SyncsInstead, SyncsPool, SyncsUpTo, Waits, WaitsOnce, WaitsUntil}
+use Rattle.pool_threads.specs.Waits.{EndsAfter, EndsFsync, EndsSyncing, FsyncsAll, IsLogTurn, IsLookTurn, IsRefusedLog, IsRefusedToWrite, IsSyncTurn, Leads, LooksAt, SyncsInstead, SyncsPool, SyncsUpTo, Waits, WaitsForFlush, WaitsOnce, WaitsUntil, WritesAndFinds, last_found}
 use Rattle.transactions.specs.LockRanges.{lock_ranges}
 use Rattle.word_lock.specs.declared.rule.Turn.{Turn}
 use Rattle.word_lock.specs.Turns.{turn}
@@ -116,6 +116,20 @@ module _ (keeps : Type 0) (L : SeenPool → SeenPool → Type 0) (same : (v w : 
   over_line : (P : Turn SeenPool → Type 0) → ((t : Turn SeenPool) → P t → Over t) → (ts : List (Turn SeenPool)) (v w : SeenPool) → All P ts → AreUnbroken v ts w → L v w
   over_line P each [] v w all line = same v w line
   over_line P each (t ∷ ts) v w all line = on v t.left w (subst (λ (u : SeenPool). L u t.left) line.0 (each t (All-head P t ts all))) (over_line P each ts t.left w (All-tail P t ts all) line.1)
+
+  -- a read under a lock
+  module _ (owner : Owner) (object : ObjectId) (range : Range) where
+    over_read : (result : Result (List ℕ) PoolError) (v w : SeenPool) → ReadsUnderLock keeps owner object range result v w → L v w
+    over_read result v w t =
+        on v t.locked w (one (reader_step owner object range) (reply.Locked t.id) v t.locked refl t.locks)
+        (on t.locked t.read w (one (step.Read owner object range) (reply_of (λ bytes. reply.Bytes bytes) result) t.locked t.read refl t.reads)
+        (one (step.Unlock owner t.id) (reply_of (λ _. reply.Done) t.answer) t.read w refl t.unlocks))
+
+    over_fetch : (o : Option (Result (List ℕ) PoolError)) (t : Turn SeenPool) → IsFetchTurn keeps owner object range o t → Over t
+    over_fetch None t (refused, free) = one (reader_step owner object range) (reply.Refused error.Busy) t.took t.left refl refused
+    over_fetch (Some (Ok bytes)) t under = over_read (Ok bytes) t.took t.left under
+    over_fetch (Some (Err e)) t (inl (refused, own)) = one (reader_step owner object range) (reply.Refused e) t.took t.left refl refused
+    over_fetch (Some (Err e)) t (inr under) = over_read (Err e) t.took t.left under
 
   over_duty_turn : (d : Duty) (passed : Option PoolError) (t : Turn SeenPool) → IsDutyTurn keeps d passed t → Over t
   over_duty_turn d passed t (r, passes, made) = over_duty d r t.took t.left made
@@ -208,38 +222,46 @@ module _ {Dev : Type 0} {G : Ghosts Dev} (L : SeenPool → SeenPool → Type 0) 
   pool_synced_alone : (answer : Result Group PoolError) (old new : Handle Dev G) → SyncsPool answer old new → Alone old new
   pool_synced_alone answer old new s = alone_on old s.looked new (looked_alone old s.looked s.looks) (up_to_alone s.group s.result s.looked new s.syncs)
 
-  receipt_alone : (receipt : Receipt) (found : Result Bool PoolError) (old new : Handle Dev G) → LooksAt receipt found old new → Alone old new
-  receipt_alone receipt found old new m = alone_one (FindsReceipt receipt found) (λ t h. same t.took t.left h.looked) old new m
+  -- a wait for a receipt
+  module _ (receipt : Receipt) where
+    receipt_alone : (found : Result Bool PoolError) (old new : Handle Dev G) → LooksAt receipt found old new → Alone old new
+    receipt_alone found old new m = alone_one (IsLookTurn receipt found) (λ t h. same t.took t.left h.0) old new m
 
-  instead_alone : (receipt : Receipt) (result : Result (Unit {0}) PoolError) (old new : Handle Dev G) → SyncsInstead receipt result old new → Alone old new
-  instead_alone receipt result old new s = alone_on old s.full new (served_alone duty.CommitLog (Some (reply.Refused NoLogSpace)) old s.full s.refused) (up_to_alone receipt.group result s.full new s.syncs)
+    written_alone : (r : Option declared_reply.Reply) (found : Result Bool PoolError) (old new : Handle Dev G) → WritesAndFinds receipt r found old new → Alone old new
+    written_alone r found old new m = alone_one (IsLogTurn (IsTrue G.keeps_model) receipt r found) (λ t h. over_duty (IsTrue G.keeps_model) L same on one duty.CommitLog r t.took t.left h.0) old new m
 
-  led_alone : (receipt : Receipt) (result : Result (Unit {0}) PoolError) (old new : Handle Dev G) → Leads receipt result old new → Alone old new
-  led_alone receipt (Ok done) old new (inl (r, passed, wrote)) = served_alone duty.CommitLog r old new wrote
-  led_alone receipt (Ok done) old new (inr s) = instead_alone receipt (Ok done) old new s
-  led_alone receipt (Err e) old new (inl (other, wrote)) = served_alone duty.CommitLog (Some (reply.Refused e)) old new wrote
-  led_alone receipt (Err e) old new (inr s) = instead_alone receipt (Err e) old new s
+    refused_alone : (e : PoolError) (old new : Handle Dev G) → IsRefusedToWrite receipt e old new → Alone old new
+    refused_alone e old new m = alone_one (IsRefusedLog (IsTrue G.keeps_model) receipt e) (λ t h. over_duty (IsTrue G.keeps_model) L same on one duty.CommitLog (Some (reply.Refused e)) t.took t.left h.2.0) old new m
 
-  once_alone : (receipt : Receipt) (old new : Handle Dev G) → WaitsOnce receipt old new → Alone old new
-  once_alone receipt old new w = alone_on old w.looked new (receipt_alone receipt (Ok false) old w.looked w.looks) (by w.goes_on)
-    where
-      by : (new ≡ w.looked) ⊎ Leads receipt (Ok tt) w.looked new → Alone w.looked new
-      by (inl is) = alone_same w.looked new is
-      by (inr led) = led_alone receipt (Ok tt) w.looked new led
+    instead_alone : (result : Result (Unit {0}) PoolError) (old new : Handle Dev G) → SyncsInstead receipt result old new → Alone old new
+    instead_alone result old new s = alone_on old s.full new (refused_alone NoLogSpace old s.full s.refused) (up_to_alone receipt.group result s.full new s.syncs)
 
-  waits_alone : (receipt : Receipt) (hs : List (Handle Dev G)) (old now : Handle Dev G) → Waits receipt hs old now → Alone old now
-  waits_alone receipt [] old now is = alone_same old now is
-  waits_alone receipt (h ∷ hs) old now (first, rest) = alone_on old h now (once_alone receipt old h first) (waits_alone receipt hs h now rest)
+    led_alone : (found : Result Bool PoolError) (old new : Handle Dev G) → Leads receipt found old new → Alone old new
+    led_alone (Ok true) old new (inl (r, wrote)) = written_alone r (Ok true) old new wrote
+    led_alone (Ok true) old new (inr s) = instead_alone (Ok tt) old new s
+    led_alone (Ok false) old new (r, passed, wrote) = written_alone r (Ok false) old new wrote
+    led_alone (Err e) old new (inl (r, passed, wrote)) = written_alone r (Err e) old new wrote
+    led_alone (Err e) old new (inr (inl (other, wrote))) = refused_alone e old new wrote
+    led_alone (Err e) old new (inr (inr s)) = instead_alone (Err e) old new s
 
-  ends_alone : (receipt : Receipt) (found : Result Bool PoolError) (result : Result (Unit {0}) PoolError) (looked new : Handle Dev G) → EndsAfter receipt found result looked new → Alone looked new
-  ends_alone receipt (Ok true) result looked new (is, stays) = alone_same looked new stays
-  ends_alone receipt (Ok false) result looked new (e, is, led) = led_alone receipt (Err e) looked new led
-  ends_alone receipt (Err e) result looked new (is, stays) = alone_same looked new stays
+    once_alone : (found : Result Bool PoolError) (old new : Handle Dev G) → WaitsOnce receipt found old new → Alone old new
+    once_alone found old new (inl look) = receipt_alone found old new look
+    once_alone found old new (inr led) = led_alone found old new led
 
-  waited_alone : (receipt : Receipt) (result : Result (Unit {0}) PoolError) (old new : Handle Dev G) → WaitsUntil receipt result old new → Alone old new
-  waited_alone receipt result old new w =
-      alone_on old w.last new (waits_alone receipt w.rounds old w.last w.waits)
-      (alone_on w.last w.looked new (receipt_alone receipt w.found w.last w.looked w.looks) (ends_alone receipt w.found result w.looked new w.ends))
+    waits_alone : (hs : List (Handle Dev G)) (old now : Handle Dev G) → Waits receipt hs old now → Alone old now
+    waits_alone [] old now is = alone_same old now is
+    waits_alone (h ∷ hs) old now (first, rest) = alone_on old h now (once_alone (Ok false) old h first) (waits_alone hs h now rest)
+
+    flushed_alone : (result : Result (Unit {0}) PoolError) (old new : Handle Dev G) → WaitsForFlush receipt result old new → Alone old new
+    flushed_alone result old new w = alone_on old w.last new (waits_alone w.rounds old w.last w.waits) (once_alone (last_found result) w.last new w.ends)
+
+    ends_alone : (found : Result Bool PoolError) (result : Result (Unit {0}) PoolError) (looked new : Handle Dev G) → EndsAfter receipt found result looked new → Alone looked new
+    ends_alone (Ok true) result looked new (is, stays) = alone_same looked new stays
+    ends_alone (Ok false) result looked new w = flushed_alone result looked new w
+    ends_alone (Err e) result looked new (is, stays) = alone_same looked new stays
+
+    waited_alone : (result : Result (Unit {0}) PoolError) (old new : Handle Dev G) → WaitsUntil receipt result old new → Alone old new
+    waited_alone result old new w = alone_on old w.looked new (receipt_alone w.found old w.looked w.looks) (ends_alone w.found result w.looked new w.ends)
 
   fsync_ends_alone : (outcome : Option (Result (Unit {0}) PoolError)) (result : Result (Unit {0}) PoolError) (wrote new : Handle Dev G) → EndsFsync outcome result wrote new → Alone wrote new
   fsync_ends_alone (Some ended) result wrote new (is, stays) = alone_same wrote new stays
@@ -249,16 +271,10 @@ module _ {Dev : Type 0} {G : Ghosts Dev} (L : SeenPool → SeenPool → Type 0) 
   all_waited_alone : (result : Result (Unit {0}) PoolError) (old new : Handle Dev G) → FsyncsAll result old new → Alone old new
   all_waited_alone result old new f = alone_on old f.wrote new (served_alone duty.CommitLog f.reply old f.wrote f.writes) (fsync_ends_alone f.outcome result f.wrote new f.ends)
 
-  read_alone : (owner : Owner) (object : ObjectId) (range : Range) (result : Result (List ℕ) PoolError) (old new : Handle Dev G) → ReadsUnderLock owner object range result old new → Alone old new
-  read_alone owner object range result old new f =
-      alone_on old f.locked new (made_at_last_alone (reader_step owner object range) error.Busy (reply.Locked f.id) old f.locked refl f.locks)
-      (alone_on f.locked f.read new (made_alone (step.Read owner object range) (reply_of (λ bytes. reply.Bytes bytes) result) f.locked f.read refl f.reads)
-      (made_alone (step.Unlock owner f.id) (reply_of (λ _. reply.Done) f.answer) f.read new refl f.unlocks))
-
   fetched_alone : (owner : Owner) (object : ObjectId) (range : Range) (result : Result (List ℕ) PoolError) (old new : Handle Dev G) → Fetches owner object range result old new → Alone old new
-  fetched_alone owner object range (Ok bytes) old new f = read_alone owner object range (Ok bytes) old new f
-  fetched_alone owner object range (Err e) old new (inl (refused, in_time)) = made_at_last_alone (reader_step owner object range) error.Busy (reply.Refused e) old new refl refused
-  fetched_alone owner object range (Err e) old new (inr f) = read_alone owner object range (Err e) old new f
+  fetched_alone owner object range result old new u =
+      alone_at_last (IsFetchTurn (IsTrue G.keeps_model) owner object range None) (IsFetchTurn (IsTrue G.keeps_model) owner object range (Some result)) (over_fetch (IsTrue G.keeps_model) L same on one owner object range None)
+      (over_fetch (IsTrue G.keeps_model) L same on one owner object range (Some result)) old new u
 
   looped_alone : (d : Duty) (old new : Handle Dev G) → Works d old new → Alone old new
   looped_alone d old new w = λ only. (
@@ -299,7 +315,7 @@ module _ {Dev : Type 0} {G : Ghosts Dev} (L : SeenPool → SeenPool → Type 0) 
     locked_alone owner ops result old new (inr (lacks, stays)) = alone_same old new stays
 
     then_waited_alone : (owner : Owner) (ops : List Op) (receipt : Receipt) (result : Result (Unit {0}) PoolError) (old new : Handle Dev G) → TransactsThenWaits owner ops receipt result old new → Alone old new
-    then_waited_alone owner ops receipt result old new t = alone_on old t.done new (transacted_alone owner ops (Ok receipt) old t.done t.transacts) (waited_alone receipt result t.done new t.waits)
+    then_waited_alone owner ops receipt result old new t = alone_on old t.done new (transacted_alone owner ops (Ok receipt) old t.done t.transacts) (flushed_alone receipt result t.done new t.waits)
 
     durably_alone : (owner : Owner) (ops : List Op) (result : Result Receipt (PoolError × Option Receipt)) (old new : Handle Dev G) → TransactsDurably owner ops result old new → Alone old new
     durably_alone owner ops (Ok r) old new t = then_waited_alone owner ops r (Ok tt) old new t

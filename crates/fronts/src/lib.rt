@@ -1,6 +1,7 @@
 //! What a crash leaves of a pool whose groups rise with the ordinals: the first commits, in their order.
 #![tactic(auto)]
 
+mod clients;
 mod histories;
 mod pools;
 

@@ -45,8 +45,8 @@ left_numbered ops maps before after x in_range n past = by (list_any (is_on n) o
     by false off = sym (object-off n ops before after off x.leads) ∙ in_range n past
 
 pub groups_leave_objects : GroupsLeaveObjects
-groups_leave_objects ops maps extents contents after are within x =
-    let before = contents_of contents in
+groups_leave_objects ops maps extents synced after are within x =
+    let before = contents_of synced in
     let first = numbered before.objects within in
-    let same : objects_with extents contents ≡ after.objects = group_is_read ops (patches_of extents) before after are x.leads first (left_numbered ops maps before after x first) in
-    (sym same, subst AreSized same (sized (objects_with extents contents) ((stay_within extents).1 before.objects within)))
+    let same : objects_with extents synced.tree ≡ after.objects = group_is_read ops (patches_of extents) before after are x.leads first (left_numbered ops maps before after x first) in
+    (sym same, subst AreSized same (sized (objects_with extents synced.tree) ((stay_within extents).1 before.objects within)))

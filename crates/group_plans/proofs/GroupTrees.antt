@@ -26,7 +26,8 @@ use Rattle.base.proofs.tree.RecordStates.{HasRecord, dirty-record, hole-record, 
 use Rattle.base.proofs.tree.Strips.{first-object, first-which, number-strip, record-low}
 use Rattle.tree_blocks.specs.declared.tree.ObjectEntry.{ObjectEntry}
 use Rattle.tree_blocks.specs.declared.tree.Tree.{Tree}
-use Rattle.tree_blocks.specs.Lengths.{HasLengthsOf}
+use Rattle.tree_blocks.specs.Lengths.{length_in}
+use Rattle.tree_blocks.specs.Sources.{object_length}
 use Rattle.tree_blocks.specs.Pointers.{ObjectPointers, is_long_entry, no_pointers, object_pointers, pointers_of, pointers_of_entry}
 use Rattle.records.specs.declared.record.Record.{Record}
 use Rattle.tree_plans.specs.declared.changes.ObjectChanges.{ObjectChanges}
@@ -45,7 +46,7 @@ record_within : (r : ℕ) (o : Option (List ℕ)) → HasRecord r o → IfSome o
 record_within r o (bytes, is, low) = subst (λ (q : Option (List ℕ)). IfSome q (λ (b : List ℕ). record_size * r < length b)) (sym is) low
 
 -- the entries of a tree in memory name the pointers that it has, of the objects whose lengths it has
-pub entries_name : (tree : Tree) (objects : FinMap nat_cmp (List ℕ)) → HasLengthsOf tree objects → (n : ℕ) → n < object_count
+pub entries_name : (tree : Tree) (objects : FinMap nat_cmp (List ℕ)) → ((n : ℕ) → n < object_count → length_in tree.entries.items n ≡ object_length objects n) → (n : ℕ) → n < object_count
     → IsEntryPointer (entry_pointer_of tree.entries.items n) (pointers_of tree (Top n)) (pointers_of tree (Indirect n)) (finite.get objects n)
 entries_name tree objects lengths n low = by (slice_get tree.entries.items n) refl (finite.get objects n) (lengths n low)
   where

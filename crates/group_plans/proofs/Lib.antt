@@ -2,6 +2,7 @@ pub mod PlannedPointers
 pub mod PlannedBlocks
 pub mod GroupChanges
 pub mod GroupObjects
+pub mod LaidLengths
 pub mod GroupTrees
 pub mod GroupCounts
 pub mod RecordsAtHand

@@ -24,14 +24,14 @@ use Rattle.base.proofs.tree.Strips.{strip-low, strip-object, strip-which}
 use Rattle.tree_blocks.specs.declared.tree.ObjectEntry.{ObjectEntry}
 use Rattle.tree_blocks.specs.declared.tree.Tree.{Tree}
 use Rattle.object_maps.specs.Cached.{BeginsInside, HoldsStrip, HoldsTop, IsPointerInside}
-use Rattle.tree_blocks.specs.Lengths.{lengths_of}
+use Rattle.tree_blocks.specs.TreeObjects.{lengths_of, objects_of}
 use Rattle.tree_blocks.specs.Pointers.{ObjectPointers, is_long_entry, no_pointers, object_pointers, pointer_of_list, pointers_of, pointers_of_entry}
 use Rattle.tree_plans.specs.declared.changes.ObjectChanges.{ObjectChanges}
 use Rattle.tree_blocks.specs.declared.object_map.ObjectMap.{ObjectMap}
 use Rattle.tree_plans.specs.Pointers.{IsPut, entry_of}
 use Rattle.tree_blocks.specs.ReadPointers.{records_among}
 use Rattle.group_plans.specs.declared.old_maps.OldObject.{OldObject}
-use Rattle.group_plans.specs.OldMaps.{AreMapsReadFor, AreMapRecords, AreStripsRead, HasReadMap, HoldsStripsOf, HoldsTreeOf, IsReadFor, IsStripRead}
+use Rattle.group_plans.specs.OldMaps.{AreMapsReadFor, AreMapRecords, AreStripsRead, HasReadMap, HoldsOwn, HoldsStripsOf, IsReadFor, IsStripRead}
 use Rattle.group_plans.specs.Prepared.{IsPlainRefusal}
 use Rattle.group_plans.proofs.ToldStrips.{long-top, short-strip}
 
@@ -88,19 +88,19 @@ module _ (tree : Tree) (n : ℕ) (e : ObjectEntry) (low : n < length tree.entrie
   length_is : lengths_of tree n ≡ e.length
   length_is = ap (λ (o : Option ObjectEntry). option_map_or (λ (x : ObjectEntry). x.length) o None) at
 
-  -- if it has two levels, and the tree has the lengths of its objects, the object is there and has so many bytes
-  pub long_there : (image : List ℕ) (frame : Frame) (objects : FinMap nat_cmp (List ℕ)) → HoldsTreeOf image frame tree objects → n < object_count → is_long_entry e ≡ true
-      → (bytes : List ℕ) × HoldsTop image frame n e.pointer (pointers_of tree) bytes × (finite.get objects n ≡ Some bytes)
-  long_there image frame objects held n_low long = by (finite.get objects n) refl (ap (λ (o : Option ℕ). option_map_or (λ size. nat_lt one_level_length size) o false) (sym (held.lengths n n_low) ∙ length_is) ∙ long)
+  -- if it has two levels, the object is there and has so many bytes
+  pub long_there : (image : List ℕ) (frame : Frame) → HoldsOwn image frame tree → is_long_entry e ≡ true
+      → (bytes : List ℕ) × HoldsTop image frame n e.pointer (pointers_of tree) bytes × (finite.get (objects_of tree) n ≡ Some bytes)
+  long_there image frame held long = by (finite.get (objects_of tree) n) refl (ap (λ (o : Option ℕ). option_map_or (λ size. nat_lt one_level_length size) o false) (sym (tree.sized n) ∙ length_is) ∙ long)
     where
       top_is : pointers_of tree (Top n) ≡ e.pointer
       top_is = ap (λ (o : ObjectPointers). o.top) own_is ∙ long-top e long
 
-      by : (o : Option (List ℕ)) → finite.get objects n ≡ o → option_map_or (λ size. nat_lt one_level_length size) (option_map length o) false ≡ true
-          → (bytes : List ℕ) × HoldsTop image frame n e.pointer (pointers_of tree) bytes × (finite.get objects n ≡ Some bytes)
+      by : (o : Option (List ℕ)) → finite.get (objects_of tree) n ≡ o → option_map_or (λ size. nat_lt one_level_length size) (option_map length o) false ≡ true
+          → (bytes : List ℕ) × HoldsTop image frame n e.pointer (pointers_of tree) bytes × (finite.get (objects_of tree) n ≡ Some bytes)
       by None none above = absurd (false≢true above)
       by (Some bytes) there above =
-          (bytes, record { objects = objects; tree = held.held; object = there; long = ltb-true one_level_length (length bytes) above; top_is = top_is }, there)
+          (bytes, record { objects = objects_of tree; tree = held; object = there; long = ltb-true one_level_length (length bytes) above; top_is = top_is }, there)
 
 -- the strips of an entry of one level
 pub short_strips : (e : ObjectEntry) (l : List Pointer) → is_long_entry e ≡ false → pointer_of_list l 0 ≡ e.pointer → ((j : ℕ) → 0 < j → pointer_of_list l j ≡ no_pointer)

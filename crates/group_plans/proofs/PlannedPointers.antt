@@ -16,7 +16,7 @@ use Rattle.base.specs.tree.Places.Place.{Root, Directory, Top, Indirect, Data}
 use Rattle.base.proofs.tree.Strips.{number-back, number-object, number-strip}
 use Rattle.tree_blocks.specs.declared.tree.ObjectEntry.{ObjectEntry}
 use Rattle.tree_blocks.specs.declared.tree.Tree.{Tree}
-use Rattle.tree_blocks.specs.Lengths.{lengths_of}
+use Rattle.tree_blocks.specs.TreeObjects.{lengths_of}
 use Rattle.tree_blocks.specs.Pointers.{ObjectPointers, entry_among, id_cmp, no_pointers, object_pointers, pointer_of_list, pointers_of, pointers_of_entry, strip_in, told_record}
 use Rattle.tree_plans.specs.declared.changes.ObjectChanges.{ObjectChanges}
 use Rattle.tree_blocks.specs.declared.object_map.ObjectMap.{ObjectMap}

@@ -16,8 +16,8 @@ use Rattle.base.specs.tree.Places.{Place}
 use Rattle.extents.specs.declared.extents.Extents.{Extents}
 use Rattle.extents.specs.Tables.{patches_of}
 use Rattle.extents.proofs.LaidObjects.{get-laid_past}
-use Rattle.contents.specs.declared.contents.Contents as slots
-use Rattle.contents.specs.ContentsShown.{contents_of}
+use Rattle.tree_blocks.specs.declared.tree.Tree.{Tree}
+use Rattle.tree_blocks.specs.TreeObjects.{objects_of}
 use Rattle.tree_blocks.specs.Sources.{object_length}
 use Rattle.tree_plans.specs.declared.changes.ObjectChanges.{ObjectChanges}
 use Rattle.tree_blocks.specs.declared.object_map.ObjectMap.{ObjectMap}
@@ -71,18 +71,18 @@ maps_as source objects a b same read id changes low at =
           (subst (λ (size : Option ℕ). IsReadAsNeeded (is_long_size size) changes h.map) (sym (same id.0)) h.read.read);
     }
 
-module _ (records : ℕ → ℕ → Option (List ℕ)) (extents : Extents) (contents : slots.Contents) where
+module _ (records : ℕ → ℕ → Option (List ℕ)) (extents : Extents) (tree : Tree) where
   abbrev prepared : FinMap nat_cmp (List ℕ)
-  prepared = with_records records (objects_with extents contents)
+  prepared = with_records records (objects_with extents tree)
 
-  none_past : (n : ℕ) → object_count ≤ n → finite.get (objects_with extents contents) n ≡ None
-  none_past n past = get-laid_past (patches_of extents) (contents_of contents).objects n past
+  none_past : (n : ℕ) → object_count ≤ n → finite.get (objects_with extents tree) n ≡ None
+  none_past n past = get-laid_past (patches_of extents) (objects_of tree) n past
 
-  pub prepared_length : (n : ℕ) → object_length prepared n ≡ object_length (objects_with extents contents) n
-  prepared_length n = sym (hand.same_length records (objects_with extents contents) none_past n)
+  pub prepared_length : (n : ℕ) → object_length prepared n ≡ object_length (objects_with extents tree) n
+  prepared_length n = sym (hand.same_length records (objects_with extents tree) none_past n)
 
-  pub prepared_exact : AreExact records (objects_with extents contents) → prepared ≡ objects_with extents contents
-  prepared_exact exact = hand.exact_objects records (objects_with extents contents) none_past exact
+  pub prepared_exact : AreExact records (objects_with extents tree) → prepared ≡ objects_with extents tree
+  prepared_exact exact = hand.exact_objects records (objects_with extents tree) none_past exact
 
 -- a plan that wants memory or blocks was refused no call
 want_calls : (e : PoolError) → IsWant e → (calls : RefusedCalls) → counted {T = TreePlan} (Err e) calls ≡ calls

@@ -14,7 +14,7 @@ use Rattle.base.specs.tree.Places.{record_of_strip, record_start, strip_number}
 use Rattle.base.specs.tree.Places.Place.{Data}
 use Rattle.base.specs.tree.Tree.{IsRecord}
 use Rattle.base.proofs.tree.Strips.{strip-low, strip-object, strip-which}
-use Rattle.contents.specs.declared.contents.Contents as slots
+use Rattle.tree_blocks.specs.declared.tree.Tree.{Tree}
 use Rattle.extents.specs.declared.extents.Extents.{Extents}
 use Rattle.tree_blocks.specs.Sources.{AreBytesFrom, object_bytes, object_length, object_record}
 use Rattle.tree_blocks.proofs.Records.{get_or-record, length-record, whole_record_read}
@@ -90,10 +90,10 @@ exact_more objects n r put old new is puts exact m s payload at = elim (puts.oth
   | inr before ↦ exact m s payload before
 ]
 
--- what is told of one image, of changes and contents is told of the same ones
-pub moved : (Q : List ℕ → Extents → slots.Contents → Type 0) (i j : List ℕ) (x y : Extents) (a b : slots.Contents) → i ≡ j → x ≡ y → a ≡ b → Q i x a → Q j y b
-moved Q i j x y a b same_image same_changes same_contents told =
-    subst (λ (i : List ℕ). Q i y b) same_image (subst (λ (x : Extents). Q i x b) same_changes (subst (λ (a : slots.Contents). Q i x a) same_contents told))
+-- what is told of one image, of changes and a tree is told of the same ones
+pub moved : (Q : List ℕ → Extents → Tree → Type 0) (i j : List ℕ) (x y : Extents) (a b : Tree) → i ≡ j → x ≡ y → a ≡ b → Q i x a → Q j y b
+moved Q i j x y a b same_image same_changes same_tree told =
+    subst (λ (i : List ℕ). Q i y b) same_image (subst (λ (x : Extents). Q i x b) same_changes (subst (λ (a : Tree). Q i x a) same_tree told))
 
 -- one object more of which the records are at hand
 pub ready_more : (has : ℕ → ℕ → Type 0) (done : List (ObjectId × ObjectChanges)) (e : ObjectId × ObjectChanges) → AreReady has done → (e.0.0 < object_count → IsReady (has e.0.0) e.1) → AreReady has (done ++ (e ∷ []))

@@ -17,7 +17,7 @@ use Rattle.checked_blocks.proofs.SealedBlocks.{sealed_block-is}
 use Rattle.tree_blocks.proofs.Payloads.{padded-full}
 use Rattle.extents.specs.Tables.{patches_of}
 use Rattle.extents.proofs.LaidObjects.{get-laid_past}
-use Rattle.contents.specs.ContentsShown.{contents_of}
+use Rattle.tree_blocks.specs.TreeObjects.{objects_of}
 use Rattle.tree_blocks.specs.Sources.{object_record}
 use Rattle.group_plans.specs.declared.prepared.PreparedObjects.{PreparedObjects}
 use Rattle.group_plans.specs.GroupPlans.{objects_with}
@@ -75,7 +75,7 @@ module _ (p : PreparedObjects) (n j k : ℕ) (n_low : n < object_count) (j_low :
       let r : ℕ = record_of_strip j k in
       let there : at_hand p.records n r ≡ Some payload = at_own p.records n r (record-low j k j_low k_low) ∙ found in
       let cut = p.cut n r payload there in
-      (cut.0, record_at_hand (at_hand p.records) (objects_with p.extents.now p.contents.now) (λ m past. get-laid_past (patches_of p.extents.now) (contents_of p.contents.now).objects m past) n r payload there cut)
+      (cut.0, record_at_hand (at_hand p.records) (objects_with p.extents.now p.tree.now) (λ m past. get-laid_past (patches_of p.extents.now) (objects_of p.tree.now) m past) n r payload there cut)
 
   pub padded_record : (payload : List ℕ) → tree.get nat_cmp p.records (record_count * n + record_of_strip j k) ≡ Some payload → padded payload ≡ object_record (prepared_objects p) n (record_of_strip j k)
   padded_record payload found = let own = own_record payload found in padded-full payload own.0 ∙ own.1

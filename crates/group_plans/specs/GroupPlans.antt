@@ -20,11 +20,10 @@ use Rattle.base.specs.tree.Places.Place.{Root, Directory}
 use Rattle.base.specs.kept.PlannedTrees.{AreFreed, IsTreePlan, NewBlock}
 use Rattle.base.specs.tree.Syncs.{written_by}
 use Rattle.records.specs.declared.record.Record.{Record}
-use Rattle.contents.specs.declared.contents.Contents as slots
 use Rattle.tree_blocks.specs.declared.tree.ObjectEntry.{ObjectEntry}
 use Rattle.tree_blocks.specs.declared.tree.Tree.{Tree}
 use Rattle.object_maps.specs.Cached.{IsReadRefusal}
-use Rattle.contents.specs.ContentsShown.{contents_of}
+use Rattle.tree_blocks.specs.TreeObjects.{objects_of}
 use Rattle.tree_blocks.specs.Sources.{object_length}
 use Rattle.tree_blocks.specs.Lengths.{length_in}
 use Rattle.tree_blocks.specs.Pointers.{pointers_of}
@@ -148,6 +147,6 @@ IsHeldRefusal e = IsWant e ⊎ (e ≡ Read)
 abbrev pub frame_planned : GroupSource → Frame
 frame_planned source = written_frame source.guid source.geometry source.group.0
 
--- the objects that contents have with the changes of a group laid over them
-abbrev pub objects_with : Extents → slots.Contents → FinMap nat_cmp (List ℕ)
-objects_with extents contents = laid_over (patches_of extents) (contents_of contents).objects
+-- the objects that a tree has with the changes of a group laid over them
+abbrev pub objects_with : Extents → Tree → FinMap nat_cmp (List ℕ)
+objects_with extents tree = laid_over (patches_of extents) (objects_of tree)

@@ -13,7 +13,7 @@ use Rattle.base.specs.kept.PlacedTrees.{HoldsTree}
 use Rattle.base.specs.declared.pointer.Pointer.{Pointer}
 use Rattle.base.specs.tree.Places.{Place}
 use Rattle.base.specs.kept.PlannedTrees.{IsTreePlan}
-use Rattle.contents.specs.declared.contents.Contents as slots
+use Rattle.contents.specs.declared.synced_tree.SyncedTree.{SyncedTree}
 use Rattle.tree_blocks.specs.declared.tree.ObjectEntry.{ObjectEntry}
 use Rattle.tree_blocks.specs.declared.tree.Tree.{Tree}
 use Rattle.contents.specs.ContentsShown.{contents_of}
@@ -38,8 +38,8 @@ AllowedOpsTakePlace = (ops : List Op) (maps : List ObjectEntry) (before after : 
 
 -- what they leave are the objects with their changes laid over them, and no object is too long
 abbrev pub GroupsLeaveObjects : Type 0
-GroupsLeaveObjects = (ops : List Op) (maps : List ObjectEntry) (extents : Extents) (contents : slots.Contents) (after : Contents) → ArePatchesOf ops (patches_of extents) → AreWithin (contents_of contents).objects
-    → TakesPlace ops maps (contents_of contents) after → (after.objects ≡ objects_with extents contents) × AreSized after.objects
+GroupsLeaveObjects = (ops : List Op) (maps : List ObjectEntry) (extents : Extents) (synced : SyncedTree) (after : Contents) → ArePatchesOf ops (patches_of extents) → AreWithin (contents_of synced).objects
+    → TakesPlace ops maps (contents_of synced) after → (after.objects ≡ objects_with extents synced.tree) × AreSized after.objects
 
 -- if bytes hold the tree of the contents before the operations, the blocks of the plan make that of the contents after
 abbrev pub PlansMakeTrees : Type 0

@@ -14,9 +14,9 @@ use Rattle.base.specs.tree.Places.{Place, record_start, strip_number}
 use Rattle.base.specs.tree.Places.Place.{Indirect, Data}
 use Rattle.tree_blocks.specs.declared.tree.Tree.{Tree}
 use Rattle.object_maps.specs.Cached.{BeginsInside}
-use Rattle.tree_blocks.specs.Lengths.{HasLengthsOf}
 use Rattle.tree_blocks.specs.Pointers.{object_pointers, pointer_of_list, pointers_of}
 use Rattle.tree_blocks.specs.Sources.{object_length}
+use Rattle.tree_blocks.specs.TreeObjects.{objects_of}
 use Rattle.tree_plans.specs.declared.changes.ObjectChanges.{ObjectChanges}
 use Rattle.tree_blocks.specs.declared.object_map.ObjectMap.{ObjectMap}
 use Rattle.tree_plans.specs.Changes.{has_two_levels}
@@ -26,10 +26,9 @@ use Rattle.tree_plans.specs.Pointers.{entry_of}
 use Rattle.tree_blocks.specs.ReadPointers.{records_among}
 use Rattle.group_plans.specs.declared.old_maps.OldObject.{OldObject}
 
--- the image holds a tree in memory with these objects, and the tree has their lengths
-pub record HoldsTreeOf (image : List ℕ) (frame : Frame) (tree : Tree) (objects : FinMap nat_cmp (List ℕ)) : Type 0 where
-  pub held : HoldsTree image frame (pointers_of tree) objects
-  pub lengths : HasLengthsOf tree objects
+-- the image holds a tree in memory with its objects
+abbrev pub HoldsOwn : List ℕ → Frame → Tree → Type 0
+HoldsOwn image frame tree = HoldsTree image frame (pointers_of tree) (objects_of tree)
 
 -- the length of an object in bytes, 0 if it is absent
 abbrev pub size_in : FinMap nat_cmp (List ℕ) → ℕ → ℕ

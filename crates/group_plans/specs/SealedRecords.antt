@@ -25,6 +25,6 @@ IsSealedAs guid group records key block = (payload : List ℕ) → tree.get nat_
 abbrev pub AreSealed : ℕ → ℕ → BTreeMap ℕ (List ℕ) → BTreeMap ℕ (List ℕ) → Type 0
 AreSealed guid group records blocks = (key : ℕ) (block : List ℕ) → tree.get nat_cmp blocks key ≡ Some block → IsSealedAs guid group records key block
 
--- the objects that contents have with the changes laid over them, with the records at hand
+-- the objects that a tree has with the changes laid over them, with the records at hand
 abbrev pub prepared_objects : PreparedObjects → FinMap nat_cmp (List ℕ)
-prepared_objects p = with_records (at_hand p.records) (objects_with p.extents.now p.contents.now)
+prepared_objects p = with_records (at_hand p.records) (objects_with p.extents.now p.tree.now)

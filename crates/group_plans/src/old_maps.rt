@@ -16,18 +16,17 @@ ghost use Rattle.base.specs.tree.Places.{Place, record_start, strip_number, stri
 ghost use Rattle.base.specs.tree.Places.Place.{Data, Indirect};
 ghost use Rattle.device_model.specs.Reading.{OnlyReads};
 ghost use Rattle.object_maps.specs.Cached.{HoldsStrip, HoldsTop, IsDamage, IsPointerInside};
-ghost use Rattle.contents.specs.ContentsShown.{contents_of};
 ghost use Rattle.tree_blocks.specs.Pointers.{pointer_of_list, pointers_of};
 ghost use Rattle.tree_plans.specs.Pointers.{entry_of};
 ghost use Rattle.tree_blocks.specs.ReadPointers.{records_among};
+ghost use Rattle.tree_blocks.specs.TreeObjects.{objects_of};
 ghost use Rattle.group_plans.specs.GroupPlans.{objects_with};
-ghost use Rattle.group_plans.specs.OldMaps.{AreMapsOf, AreMapsOfObjects, AreMapsReadFor, ArePointersOf, AreRecordsAt, AreMapRecords, AreMapStrips, AreStripsRead, HasReadMap, HoldsStripsOf, HoldsTreeOf, IsMapBefore, IsReadFor, IsStripRead, size_in};
+ghost use Rattle.group_plans.specs.OldMaps.{AreMapsOf, AreMapsOfObjects, AreMapsReadFor, ArePointersOf, AreRecordsAt, AreMapRecords, AreMapStrips, AreStripsRead, HasReadMap, HoldsOwn, HoldsStripsOf, IsMapBefore, IsReadFor, IsStripRead, size_in};
 ghost use Rattle.group_plans.specs.Prepared.{IsPlainRefusal, IsPrepareRefusal};
 
 use crate::planning::GroupSource;
 use base::{OBJECT_COUNT, ObjectId, POINTER_COUNT, Pointer, PoolError, RECORD_SIZE};
 use checked_blocks::Frame;
-use contents::Contents;
 use extents::{Extents, Laid};
 use object_maps::{BlockReader, read_indirect, read_top, record_pointer, strip_pointer};
 use std::alloc::Global;
@@ -285,13 +284,11 @@ fn read_indirects<B: BlockReader>(
     ensures strips { IfOk result (λ l.
         AreMapStrips frame.now.blocks tree.now object.now.id.0 l.items) }
     ensures refused { IfErr result IsPrepareRefusal }
-    ensures exact { IsTrue B.keeps_model → (objects : FinMap nat_cmp (List ℕ))
-        → HoldsTreeOf (bytes_of (B.disk reader.old).now) frame.now tree.now objects
+    ensures exact { IsTrue B.keeps_model → HoldsOwn (bytes_of (B.disk reader.old).now) frame.now tree.now
         → IfOk result (λ l. (j : ℕ) → j < pointer_count → pointer_of_list l.items j
         ≡ pointers_of tree.now (Indirect (strip_number object.now.id.0 j))) }
-    ensures sound { IsTrue B.keeps_model → (objects : FinMap nat_cmp (List ℕ))
-        → HoldsTreeOf (bytes_of (B.disk reader.old).now) frame.now tree.now objects
-        → object.now.size ≡ size_in objects object.now.id.0 → IfErr result IsPlainRefusal }
+    ensures sound { IsTrue B.keeps_model → HoldsOwn (bytes_of (B.disk reader.old).now) frame.now tree.now
+        → object.now.size ≡ size_in (objects_of tree.now) object.now.id.0 → IfErr result IsPlainRefusal }
 {
     let entry = &tree.entries[object.id.0 as usize];
     if entry.is_long() {
@@ -316,13 +313,11 @@ fn read_map<B: BlockReader>(
         (IsMapBefore frame.now.blocks tree.now object.now.size object.now.id.0) }
     ensures read { IfOk result (IsReadFor object.now.is_long object.now.changes.now) }
     ensures refused { IfErr result IsPrepareRefusal }
-    ensures exact { IsTrue B.keeps_model → (objects : FinMap nat_cmp (List ℕ))
-        → HoldsTreeOf (bytes_of (B.disk reader.old).now) frame.now tree.now objects
-        → object.now.size ≡ size_in objects object.now.id.0
+    ensures exact { IsTrue B.keeps_model → HoldsOwn (bytes_of (B.disk reader.old).now) frame.now tree.now
+        → object.now.size ≡ size_in (objects_of tree.now) object.now.id.0
         → IfOk result (ArePointersOf (pointers_of tree.now) object.now.id.0) }
-    ensures sound { IsTrue B.keeps_model → (objects : FinMap nat_cmp (List ℕ))
-        → HoldsTreeOf (bytes_of (B.disk reader.old).now) frame.now tree.now objects
-        → object.now.size ≡ size_in objects object.now.id.0 → IfErr result IsPlainRefusal }
+    ensures sound { IsTrue B.keeps_model → HoldsOwn (bytes_of (B.disk reader.old).now) frame.now tree.now
+        → object.now.size ≡ size_in (objects_of tree.now) object.now.id.0 → IfErr result IsPlainRefusal }
 {
     let top = tree.entries[object.id.0 as usize].top();
     let indirects = read_indirects(alloc, reader, frame, tree, object)?;
@@ -340,7 +335,6 @@ fn read_changed<B: BlockReader>(
     frame: &Frame,
     source: &GroupSource<'_>,
     extents: &Extents,
-    contents: &Contents,
     maps: &mut BTreeMap<ObjectId, ObjectMap>,
     id: ObjectId,
     changes: &ObjectChanges,
@@ -348,21 +342,21 @@ fn read_changed<B: BlockReader>(
     requires fits { block_address frame.now.blocks ≤ B.size reader.old }
     ensures reads { OnlyReads B.SectorDevice result reader.old reader.new }
     ensures read { OnOk result (id.0 < object_count
-        → HasReadMap (objects_with extents.now contents.now) maps.new.entries id.0 changes.now) }
+        → HasReadMap (objects_with extents.now source.now.tree.now) maps.new.entries id.0 changes.now) }
     ensures others { OnOk result ((n : ℕ) → (id.0 ≡ n → ⊥)
         → entry_of maps.new.entries n ≡ entry_of maps.old.entries n) }
     ensures maps { OnOk result
-        (AreMapsOf frame.now.blocks source.now.tree.now (contents_of contents.now).objects
+        (AreMapsOf frame.now.blocks source.now.tree.now (objects_of source.now.tree.now)
         maps.old.entries
-        → AreMapsOf frame.now.blocks source.now.tree.now (contents_of contents.now).objects
+        → AreMapsOf frame.now.blocks source.now.tree.now (objects_of source.now.tree.now)
         maps.new.entries) }
     ensures refused { IfErr result IsPrepareRefusal }
-    ensures exact { IsTrue B.keeps_model → HoldsTreeOf (bytes_of (B.disk reader.old).now) frame.now
-        source.now.tree.now (contents_of contents.now).objects
+    ensures exact { IsTrue B.keeps_model → HoldsOwn (bytes_of (B.disk reader.old).now) frame.now
+        source.now.tree.now
         → OnOk result (AreMapsOfObjects (pointers_of source.now.tree.now) maps.old.entries
         → AreMapsOfObjects (pointers_of source.now.tree.now) maps.new.entries) }
-    ensures sound { IsTrue B.keeps_model → HoldsTreeOf (bytes_of (B.disk reader.old).now) frame.now
-        source.now.tree.now (contents_of contents.now).objects
+    ensures sound { IsTrue B.keeps_model → HoldsOwn (bytes_of (B.disk reader.old).now) frame.now
+        source.now.tree.now
         → IfErr result IsPlainRefusal }
 {
     if id.0 >= OBJECT_COUNT {
@@ -370,8 +364,8 @@ fn read_changed<B: BlockReader>(
     }
     let object = OldObject {
         id,
-        size: contents.length(id).unwrap_or(0) as usize,
-        is_long: is_long(Laid::new(extents, contents).length(id)),
+        size: source.tree.length(id).unwrap_or(0) as usize,
+        is_long: is_long(Laid::new(extents, source.tree).length(id)),
         changes,
     };
     let map = read_map(source.alloc, reader, frame, source.tree, &object)?;
@@ -380,7 +374,7 @@ fn read_changed<B: BlockReader>(
 }
 
 // The map before the group of each of these objects that has a place in the tree of the source, which holds the objects
-// of the contents. They are read for rising objects: the top of each, and the indirect blocks that a plan looks at.
+// that it has. They are read for rising objects: the top of each, and the indirect blocks that a plan looks at.
 //
 // It is refused `NoMemory`, `Read`, or `Damaged` if a block is none of the tree. A device that keeps the model and
 // holds the tree gives none that is damaged (`sound`), and the maps are those of its objects then (`exact`).
@@ -389,30 +383,27 @@ pub(crate) fn read_maps<B: BlockReader>(
     frame: &Frame,
     source: &GroupSource<'_>,
     extents: &Extents,
-    contents: &Contents,
     objects: &BTreeMap<ObjectId, ObjectChanges>,
 ) -> Result<BTreeMap<ObjectId, ObjectMap>, PoolError>
     requires fits { block_address frame.now.blocks ≤ B.size reader.old }
     ensures reads { OnlyReads B.SectorDevice result reader.old reader.new }
-    ensures read { IfOk result (λ maps. AreMapsReadFor (objects_with extents.now contents.now)
+    ensures read { IfOk result (λ maps. AreMapsReadFor (objects_with extents.now source.now.tree.now)
         objects.now.entries maps.entries) }
     ensures none { IfOk result (λ maps. (n : ℕ) → is_some (entry_of objects.now.entries n) ≡ false
         → is_some (entry_of maps.entries n) ≡ false) }
     ensures maps { IfOk result (λ maps. AreMapsOf frame.now.blocks source.now.tree.now
-        (contents_of contents.now).objects maps.entries) }
+        (objects_of source.now.tree.now) maps.entries) }
     ensures refused { IfErr result IsPrepareRefusal }
-    ensures exact { IsTrue B.keeps_model → HoldsTreeOf (bytes_of (B.disk reader.old).now) frame.now
-        source.now.tree.now (contents_of contents.now).objects
+    ensures exact { IsTrue B.keeps_model → HoldsOwn (bytes_of (B.disk reader.old).now) frame.now
+        source.now.tree.now
         → IfOk result (λ maps. AreMapsOfObjects (pointers_of source.now.tree.now) maps.entries) }
-    ensures sound { IsTrue B.keeps_model → HoldsTreeOf (bytes_of (B.disk reader.old).now) frame.now
-        source.now.tree.now (contents_of contents.now).objects
+    ensures sound { IsTrue B.keeps_model → HoldsOwn (bytes_of (B.disk reader.old).now) frame.now
+        source.now.tree.now
         → IfErr result IsPlainRefusal }
 {
     let mut maps = BTreeMap::new(source.alloc);
     for (id, changes) in objects.iter() {
-        read_changed(
-            reader, frame, source, extents, contents, &mut maps, *id, changes,
-        )?;
+        read_changed(reader, frame, source, extents, &mut maps, *id, changes)?;
     }
     Ok(maps)
 }

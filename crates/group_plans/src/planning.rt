@@ -7,8 +7,8 @@ ghost use Rattle.base.specs.disk.Disk.{bytes_of};
 ghost use Rattle.base.specs.formats.Geometry.{block_address, block_count};
 ghost use Rattle.base.specs.kept.PlacedTrees.{ArePlaced};
 ghost use Rattle.device_model.specs.Reading.{OnlyReads};
-ghost use Rattle.contents.specs.ContentsShown.{contents_of};
 ghost use Rattle.tree_blocks.specs.Pointers.{pointers_of};
+ghost use Rattle.tree_blocks.specs.TreeObjects.{objects_of};
 ghost use Rattle.base.specs.tree.Places.{Place};
 ghost use Rattle.base.specs.declared.pointer.Pointer.{Pointer};
 ghost use Rattle.tree_plans.specs.Changes.{written_frame};
@@ -16,7 +16,7 @@ ghost use Rattle.tree_plans.specs.Parts.{AreMapsRead, AreReady};
 ghost use Rattle.tree_plans.specs.Plans.{IsWant};
 ghost use Rattle.tree_plans.specs.Pointers.{entry_of};
 ghost use Rattle.tree_plans.specs.TreePlans.{GivesBack, GivesTree, HasEntries, HasLengths, TakesBlocks, TellsFull};
-ghost use Rattle.group_plans.specs.OldMaps.{AreMapsOf, AreMapsOfObjects, AreMapsReadFor, HoldsTreeOf};
+ghost use Rattle.group_plans.specs.OldMaps.{AreMapsOf, AreMapsOfObjects, AreMapsReadFor, HoldsOwn};
 ghost use Rattle.group_plans.specs.Prepared.{at_hand};
 ghost use Rattle.group_plans.specs.SealedRecords.{prepared_objects};
 ghost use Rattle.group_plans.specs.ReadPlans.{HoldsPlanned, IsShortFor, IsShortFrom, PlansReadTree};
@@ -28,7 +28,6 @@ use crate::preparing::prepare;
 use crate::sealed_objects::SealedObjects;
 use base::{Group, ObjectId, PoolError};
 use checked_blocks::Frame;
-use contents::Contents;
 use extents::Extents;
 use labels::Geometry;
 use object_maps::BlockReader;
@@ -57,7 +56,7 @@ pub struct GroupSource<'a> {
 }
 
 /// Plans the tree after the group of a source. `records` are committed transactions in order, and those of other groups
-/// are passed over. `extents` are the changes that those of the group make, over the contents of the tree. `before` is
+/// are passed over. `extents` are the changes that those of the group make, over the objects of the tree. `before` is
 /// the frame of that tree's blocks.
 ///
 /// Of each object that the group changes, rising, it reads the top, if the object has two levels, and then the
@@ -70,8 +69,8 @@ pub struct GroupSource<'a> {
 /// - `tree`: the blocks make a tree after the group, with its pointers and its lengths, and what comes back is what
 ///   that tree replaces, by the pointers that were read: each once, if no two places had blocks at one address. If no
 ///   operation is on an object, the root stays and nothing is written. The blocks hold the records as they were read.
-/// - `objects`: if the device keeps the model and holds the tree of the contents, and the tree has their lengths
-///   (`HoldsTreeOf`), these are the tree's pointers, and the new tree has the objects after the group.
+/// - `objects`: if the device keeps the model and holds the tree with its objects (`HoldsOwn`), these are the tree's
+///   pointers, and the new tree has the objects after the group.
 ///
 /// # Errors
 /// - `NoSpace`, only if fewer blocks are free than there are places to write (`no_space`). If the device keeps the
@@ -85,7 +84,6 @@ pub fn plan_group<B: BlockReader>(
     source: &GroupSource<'_>,
     records: &[Record],
     extents: &Extents,
-    contents: &Contents,
 ) -> Result<TreePlan, PoolError>
     requires room { block_address before.now.blocks ≤ B.size reader.old }
     requires area { before.now.blocks ≡ block_count source.now.geometry }
@@ -96,27 +94,27 @@ pub fn plan_group<B: BlockReader>(
     ensures fits { IfOk result (FitsIn source.now.geometry) }
     ensures taken { IfOk result (TakesLowest source.now.free.now.free) }
     ensures tree { IfOk result (MakesReadTree (frame_planned source.now) source.now.tree.now
-        records.now (objects_with extents.now contents.now)) }
+        records.now (objects_with extents.now source.now.tree.now)) }
     ensures objects { IsTrue B.keeps_model
-        → HoldsTreeOf (bytes_of (B.disk reader.old).now) before.now
-        source.now.tree.now (contents_of contents.now).objects
+        → HoldsOwn (bytes_of (B.disk reader.old).now) before.now
+        source.now.tree.now
         → IfOk result (HoldsGroupObjects (frame_planned source.now) source.now.tree.now records.now
-        (objects_with extents.now contents.now)) }
+        (objects_with extents.now source.now.tree.now)) }
     ensures no_space { IfErr result (IsRefusedShort source.now.group.0 source.now.tree.now
-        records.now (objects_with extents.now contents.now) source.now.free.now.free) }
-    ensures short { IsTrue B.keeps_model → HoldsTreeOf (bytes_of (B.disk reader.old).now) before.now
-        source.now.tree.now (contents_of contents.now).objects
+        records.now (objects_with extents.now source.now.tree.now) source.now.free.now.free) }
+    ensures short { IsTrue B.keeps_model → HoldsOwn (bytes_of (B.disk reader.old).now) before.now
+        source.now.tree.now
         → IfErr result (IsTreeShort source.now.group.0 source.now.tree.now records.now
-        (objects_with extents.now contents.now) source.now.free.now.free) }
+        (objects_with extents.now source.now.tree.now) source.now.free.now.free) }
     ensures refused { IfErr result IsPlanRefusal }
-    ensures sound { IsTrue B.keeps_model → HoldsTreeOf (bytes_of (B.disk reader.old).now) before.now
-        source.now.tree.now (contents_of contents.now).objects
+    ensures sound { IsTrue B.keeps_model → HoldsOwn (bytes_of (B.disk reader.old).now) before.now
+        source.now.tree.now
         → IfErr result IsHeldRefusal }
 {
     let alloc = source.alloc;
     let tree = source.tree;
     let objects = changed_objects(alloc, &tree.entries, records, source.group)?;
-    let old_maps = read_maps(reader, before, source, extents, contents, &objects)?;
+    let old_maps = read_maps(reader, before, source, extents, &objects)?;
     let read = PlanSource {
         alloc,
         geometry: source.geometry,
@@ -126,7 +124,7 @@ pub fn plan_group<B: BlockReader>(
         old_maps: &old_maps,
         free: source.free,
     };
-    plan_read(reader, before, &read, &objects, extents, contents)
+    plan_read(reader, before, &read, &objects, extents)
 }
 
 // Plans the tree after a group that changes these objects, whose old maps were read.
@@ -136,45 +134,44 @@ fn plan_read<B: BlockReader>(
     read: &PlanSource<'_>,
     objects: &BTreeMap<ObjectId, ObjectChanges>,
     extents: &Extents,
-    contents: &Contents,
 ) -> Result<TreePlan, PoolError>
     requires room { block_address before.now.blocks ≤ B.size reader.old }
     requires sized { read.now.free.now.blocks ≡ block_count read.now.geometry }
     requires placed { ∥ ArePlaced (block_count read.now.geometry)
         (pointers_of read.now.tree.now) ∥₁ }
-    requires maps { AreMapsReadFor (objects_with extents.now contents.now) objects.now.entries
+    requires maps { AreMapsReadFor (objects_with extents.now read.now.tree.now) objects.now.entries
         read.now.old_maps.now.entries }
     requires none { (n : ℕ) → is_some (entry_of objects.now.entries n) ≡ false
         → is_some (entry_of read.now.old_maps.now.entries n) ≡ false }
     requires old { AreMapsOf (block_count read.now.geometry) read.now.tree.now
-        (contents_of contents.now).objects read.now.old_maps.now.entries }
+        (objects_of read.now.tree.now) read.now.old_maps.now.entries }
     ensures reads { OnlyReads B.SectorDevice result reader.old reader.new }
     ensures fits { IfOk result (FitsIn read.now.geometry) }
     ensures taken { IfOk result (TakesLowest read.now.free.now.free) }
     ensures tree { IfOk result (λ p. (old : Place → Pointer) × PlansReadTree
         (written_frame read.now.guid read.now.geometry read.now.group.0) old read.now.tree.now
-        objects.now.entries (objects_with extents.now contents.now) p) }
+        objects.now.entries (objects_with extents.now read.now.tree.now) p) }
     ensures objects { IsTrue B.keeps_model
-        → HoldsTreeOf (bytes_of (B.disk reader.old).now) before.now
-        read.now.tree.now (contents_of contents.now).objects
+        → HoldsOwn (bytes_of (B.disk reader.old).now) before.now
+        read.now.tree.now
         → AreMapsOfObjects (pointers_of read.now.tree.now) read.now.old_maps.now.entries
         → IfOk result (HoldsPlanned
         (written_frame read.now.guid read.now.geometry read.now.group.0) read.now.tree.now
-        objects.now.entries (objects_with extents.now contents.now)) }
+        objects.now.entries (objects_with extents.now read.now.tree.now)) }
     ensures no_space { IfErr result (IsShortFor objects.now.entries
-        (objects_with extents.now contents.now) read.now.free.now.free) }
-    ensures short { IsTrue B.keeps_model → HoldsTreeOf (bytes_of (B.disk reader.old).now) before.now
-        read.now.tree.now (contents_of contents.now).objects
+        (objects_with extents.now read.now.tree.now) read.now.free.now.free) }
+    ensures short { IsTrue B.keeps_model → HoldsOwn (bytes_of (B.disk reader.old).now) before.now
+        read.now.tree.now
         → AreMapsOfObjects (pointers_of read.now.tree.now) read.now.old_maps.now.entries
         → IfErr result (IsShortFrom (pointers_of read.now.tree.now) objects.now.entries
-        (objects_with extents.now contents.now) read.now.free.now.free) }
+        (objects_with extents.now read.now.tree.now) read.now.free.now.free) }
     ensures refused { IfErr result IsPlanRefusal }
-    ensures sound { IsTrue B.keeps_model → HoldsTreeOf (bytes_of (B.disk reader.old).now) before.now
-        read.now.tree.now (contents_of contents.now).objects
+    ensures sound { IsTrue B.keeps_model → HoldsOwn (bytes_of (B.disk reader.old).now) before.now
+        read.now.tree.now
         → AreMapsOfObjects (pointers_of read.now.tree.now) read.now.old_maps.now.entries
         → IfErr result IsHeldRefusal }
 {
-    let after = prepare(reader, before, read, objects, extents, contents)?;
+    let after = prepare(reader, before, read, objects, extents)?;
     plan_sealed(read, &after, objects)
 }
 

@@ -8,21 +8,20 @@ ghost use Rattle.group_plans.specs.GroupPlans.{objects_with};
 ghost use Rattle.group_plans.specs.Prepared.{AreClearedPast, IsClearedPast, KeepsFront, KeepsHand, PutsRecord, at_hand, with_records};
 
 use base::{Bytes, ObjectId, PoolError, RECORD_SIZE};
-use contents::Contents;
 use extents::{Extents, Laid};
 use std::alloc::Global;
 use std::collections::BTreeMap;
-use tree_blocks::{ObjectSource, RECORD_COUNT};
+use tree_blocks::{ObjectSource, RECORD_COUNT, Tree};
 
-// The objects that contents have with the changes of a group laid over them. Some of their records are at hand, and
+// The objects that a tree has with the changes of a group laid over them. Some of their records are at hand, and
 // stand in the place of their own.
 #[derive(Drop)]
 pub(crate) struct PreparedObjects<'a> {
     alloc: Global,
     pub(crate) extents: &'a Extents,
-    pub(crate) contents: &'a Contents,
+    pub(crate) tree: &'a Tree,
     pub(crate) records: BTreeMap<u64, Bytes>,
-    ghost cut: { AreClearedPast (at_hand records) (objects_with extents.now contents.now) },
+    ghost cut: { AreClearedPast (at_hand records) (objects_with extents.now tree.now) },
 }
 
 // The number of a record among those of all objects.
@@ -35,16 +34,16 @@ pub(crate) fn record_number(id: ObjectId, index: usize) -> u64
 }
 
 impl<'a> PreparedObjects<'a> {
-    // The objects of contents with the changes laid over them, of which no record is at hand.
-    pub(crate) fn new(alloc: Global, extents: &'a Extents, contents: &'a Contents) -> Self
+    // The objects of a tree with the changes laid over them, of which no record is at hand.
+    pub(crate) fn new(alloc: Global, extents: &'a Extents, tree: &'a Tree) -> Self
         ensures extents { result.extents.now ≡ extents.now }
-        ensures contents { result.contents.now ≡ contents.now }
+        ensures below { result.tree.now ≡ tree.now }
         ensures none { (n r : ℕ) → at_hand result.records n r ≡ None }
     {
         PreparedObjects {
             alloc,
             extents,
-            contents,
+            tree,
             records: BTreeMap::new(alloc),
         }
     }
@@ -55,15 +54,13 @@ impl<'a> PreparedObjects<'a> {
         requires index { index < record_count }
         requires size { length payload.old ≡ record_size }
         ensures cut { IsClearedPast
-            (object_bytes (objects_with self.now.extents.now self.now.contents.now) id.0)
+            (object_bytes (objects_with self.now.extents.now self.now.tree.now) id.0)
             index payload.new }
         ensures kept { KeepsFront
-            (object_bytes (objects_with self.now.extents.now self.now.contents.now) id.0)
+            (object_bytes (objects_with self.now.extents.now self.now.tree.now) id.0)
             index payload.old payload.new }
     {
-        let length = Laid::new(self.extents, self.contents)
-            .length(id)
-            .unwrap_or(0) as usize;
+        let length = Laid::new(self.extents, self.tree).length(id).unwrap_or(0) as usize;
         let end = RECORD_SIZE.min(length.saturating_sub(RECORD_SIZE * index));
         payload[end..].fill(0);
     }
@@ -78,12 +75,12 @@ impl<'a> PreparedObjects<'a> {
         requires index { index < record_count }
         requires size { length payload.old ≡ record_size }
         ensures extents { self.new.extents.now ≡ self.old.extents.now }
-        ensures contents { self.new.contents.now ≡ self.old.contents.now }
+        ensures below { self.new.tree.now ≡ self.old.tree.now }
         ensures cut { IsClearedPast
-            (object_bytes (objects_with self.old.extents.now self.old.contents.now) id.0)
+            (object_bytes (objects_with self.old.extents.now self.old.tree.now) id.0)
             index payload.new }
         ensures front { KeepsFront
-            (object_bytes (objects_with self.old.extents.now self.old.contents.now) id.0)
+            (object_bytes (objects_with self.old.extents.now self.old.tree.now) id.0)
             index payload.old payload.new }
         ensures put { OnOk result (PutsRecord id.0 index payload.new
             (at_hand self.old.records) (at_hand self.new.records)) }

@@ -10,7 +10,7 @@ ghost use Rattle.base.specs.kept.PlacedTrees.{HoldsTree};
 ghost use Rattle.base.specs.tree.Places.{record_of_strip};
 ghost use Rattle.device_model.specs.Reading.{OnlyReads};
 ghost use Rattle.object_maps.specs.Cached.{IsReadRefusal};
-ghost use Rattle.contents.specs.ContentsShown.{contents_of};
+ghost use Rattle.tree_blocks.specs.TreeObjects.{objects_of};
 ghost use Rattle.extents.specs.Tables.{patches_of};
 ghost use Rattle.tree_plans.specs.Changes.{state_at};
 ghost use Rattle.tree_plans.specs.Parts.{AreReady};
@@ -24,11 +24,10 @@ ghost use Rattle.group_plans.specs.Prepared.{AreBelow, AreExact, HoldsMap, Holds
 use crate::prepared::PreparedObjects;
 use base::{OBJECT_COUNT, ObjectId, POINTER_COUNT, Pointer, PoolError, RECORD_SIZE, RecordState};
 use checked_blocks::Frame;
-use contents::Contents;
 use extents::Extents;
 use object_maps::{BlockReader, read_part};
 use std::collections::BTreeMap;
-use tree_blocks::{ObjectMap, RecordPlace, strip_number};
+use tree_blocks::{ObjectMap, RecordPlace, Tree, strip_number};
 use tree_plans::{ObjectChanges, PlanSource};
 
 // Reads a record of the synced tree, if it is there and the group does not hide it.
@@ -36,7 +35,7 @@ fn read_below<B: BlockReader>(
     reader: &mut B,
     frame: &Frame,
     extents: &Extents,
-    contents: &Contents,
+    tree: &Tree,
     place: RecordPlace,
     pointer: &Pointer,
     into: &mut [u8],
@@ -50,14 +49,14 @@ fn read_below<B: BlockReader>(
     ensures size { length into.new ≡ record_size }
     ensures refused { IfErr result IsReadRefusal }
     ensures exact { IsTrue B.keeps_model → HoldsRecord (bytes_of (B.disk reader.old).now)
-        frame.now (contents_of contents.now).objects place pointer.now
-        → OnOk result (AreBelow (patches_of extents.now) (contents_of contents.now).objects
+        frame.now (objects_of tree.now) place pointer.now
+        → OnOk result (AreBelow (patches_of extents.now) (objects_of tree.now)
         place.id.0 (number_of_record place) into.new) }
     ensures sound { IsTrue B.keeps_model → HoldsRecord (bytes_of (B.disk reader.old).now)
-        frame.now (contents_of contents.now).objects place pointer.now
+        frame.now (objects_of tree.now) place pointer.now
         → IfErr result (λ e. e ≡ error.Read) }
 {
-    let Some(size) = contents.length(place.id) else {
+    let Some(size) = tree.length(place.id) else {
         return Ok(());
     };
     if extents.hides(place.id, place.number(), 0, RECORD_SIZE) {
@@ -73,7 +72,7 @@ fn read_record<B: BlockReader>(
     reader: &mut B,
     frame: &Frame,
     extents: &Extents,
-    contents: &Contents,
+    tree: &Tree,
     place: RecordPlace,
     pointer: &Pointer,
     into: &mut [u8],
@@ -87,14 +86,14 @@ fn read_record<B: BlockReader>(
     ensures size { length into.new ≡ record_size }
     ensures refused { IfErr result IsReadRefusal }
     ensures exact { IsTrue B.keeps_model → HoldsRecord (bytes_of (B.disk reader.old).now)
-        frame.now (contents_of contents.now).objects place pointer.now
-        → OnOk result (IsObjectRecord (objects_with extents.now contents.now)
+        frame.now (objects_of tree.now) place pointer.now
+        → OnOk result (IsObjectRecord (objects_with extents.now tree.now)
         place.id.0 (number_of_record place) into.new) }
     ensures sound { IsTrue B.keeps_model → HoldsRecord (bytes_of (B.disk reader.old).now)
-        frame.now (contents_of contents.now).objects place pointer.now
+        frame.now (objects_of tree.now) place pointer.now
         → IfErr result (λ e. e ≡ error.Read) }
 {
-    read_below(reader, frame, extents, contents, place, pointer, into)?;
+    read_below(reader, frame, extents, tree, place, pointer, into)?;
     extents.lay_on(place.id, place.number(), 0, into);
     Ok(())
 }
@@ -113,19 +112,19 @@ fn prepare_record<B: BlockReader>(
     requires index { place.index < pointer_count }
     ensures reads { OnlyReads B.SectorDevice result reader.old reader.new }
     ensures extents { prepared.new.extents.now ≡ prepared.old.extents.now }
-    ensures contents { prepared.new.contents.now ≡ prepared.old.contents.now }
+    ensures below { prepared.new.tree.now ≡ prepared.old.tree.now }
     ensures ready { OnOk result
         (is_some (at_hand prepared.new.records place.id.0 (number_of_record place)) ≡ true) }
     ensures kept { KeepsHand (at_hand prepared.old.records) (at_hand prepared.new.records) }
     ensures refused { IfErr result IsPrepareRefusal }
     ensures exact { IsTrue B.keeps_model → HoldsRecord (bytes_of (B.disk reader.old).now) frame.now
-        (contents_of prepared.old.contents.now).objects place pointer.now
+        (objects_of prepared.old.tree.now) place pointer.now
         → AreExact (at_hand prepared.old.records)
-        (objects_with prepared.old.extents.now prepared.old.contents.now)
+        (objects_with prepared.old.extents.now prepared.old.tree.now)
         → OnOk result (AreExact (at_hand prepared.new.records)
-        (objects_with prepared.old.extents.now prepared.old.contents.now)) }
+        (objects_with prepared.old.extents.now prepared.old.tree.now)) }
     ensures sound { IsTrue B.keeps_model → HoldsRecord (bytes_of (B.disk reader.old).now) frame.now
-        (contents_of prepared.old.contents.now).objects place pointer.now
+        (objects_of prepared.old.tree.now) place pointer.now
         → IfErr result IsPlainRefusal }
 {
     let mut payload = [0; RECORD_SIZE];
@@ -133,7 +132,7 @@ fn prepare_record<B: BlockReader>(
         reader,
         frame,
         prepared.extents,
-        prepared.contents,
+        prepared.tree,
         place,
         pointer,
         &mut payload,
@@ -156,20 +155,20 @@ fn prepare_dirty<B: BlockReader>(
     requires index { place.index < pointer_count }
     ensures reads { OnlyReads B.SectorDevice result reader.old reader.new }
     ensures extents { prepared.new.extents.now ≡ prepared.old.extents.now }
-    ensures contents { prepared.new.contents.now ≡ prepared.old.contents.now }
+    ensures below { prepared.new.tree.now ≡ prepared.old.tree.now }
     ensures ready { OnOk result (state ≡ Dirty
         → is_some (at_hand prepared.new.records place.id.0 (number_of_record place)) ≡ true) }
     ensures kept { KeepsHand (at_hand prepared.old.records) (at_hand prepared.new.records) }
     ensures refused { IfErr result IsPrepareRefusal }
     ensures exact { IsTrue B.keeps_model → HoldsRecord (bytes_of (B.disk reader.old).now) frame.now
-        (contents_of prepared.old.contents.now).objects place
+        (objects_of prepared.old.tree.now) place
         (read_record map.now place.strip place.index)
         → AreExact (at_hand prepared.old.records)
-        (objects_with prepared.old.extents.now prepared.old.contents.now)
+        (objects_with prepared.old.extents.now prepared.old.tree.now)
         → OnOk result (AreExact (at_hand prepared.new.records)
-        (objects_with prepared.old.extents.now prepared.old.contents.now)) }
+        (objects_with prepared.old.extents.now prepared.old.tree.now)) }
     ensures sound { IsTrue B.keeps_model → HoldsRecord (bytes_of (B.disk reader.old).now) frame.now
-        (contents_of prepared.old.contents.now).objects place
+        (objects_of prepared.old.tree.now) place
         (read_record map.now place.strip place.index)
         → IfErr result IsPlainRefusal }
 {
@@ -197,20 +196,20 @@ fn prepare_strip<B: BlockReader>(
     requires strip { strip < pointer_count }
     ensures reads { OnlyReads B.SectorDevice result reader.old reader.new }
     ensures extents { prepared.new.extents.now ≡ prepared.old.extents.now }
-    ensures contents { prepared.new.contents.now ≡ prepared.old.contents.now }
+    ensures below { prepared.new.tree.now ≡ prepared.old.tree.now }
     ensures ready { OnOk result ((k : ℕ) → k < pointer_count
         → state_at changes.now (record_of_strip strip k) ≡ Dirty
         → is_some (at_hand prepared.new.records id.0 (record_of_strip strip k)) ≡ true) }
     ensures kept { KeepsHand (at_hand prepared.old.records) (at_hand prepared.new.records) }
     ensures refused { IfErr result IsPrepareRefusal }
     ensures exact { IsTrue B.keeps_model → HoldsRecords (bytes_of (B.disk reader.old).now) frame.now
-        (contents_of prepared.old.contents.now).objects id.0 strip map.now
+        (objects_of prepared.old.tree.now) id.0 strip map.now
         → AreExact (at_hand prepared.old.records)
-        (objects_with prepared.old.extents.now prepared.old.contents.now)
+        (objects_with prepared.old.extents.now prepared.old.tree.now)
         → OnOk result (AreExact (at_hand prepared.new.records)
-        (objects_with prepared.old.extents.now prepared.old.contents.now)) }
+        (objects_with prepared.old.extents.now prepared.old.tree.now)) }
     ensures sound { IsTrue B.keeps_model → HoldsRecords (bytes_of (B.disk reader.old).now) frame.now
-        (contents_of prepared.old.contents.now).objects id.0 strip map.now
+        (objects_of prepared.old.tree.now) id.0 strip map.now
         → IfErr result IsPlainRefusal }
 {
     for index in 0..POINTER_COUNT {
@@ -236,20 +235,20 @@ fn prepare_written<B: BlockReader>(
     requires strip { strip < pointer_count }
     ensures reads { OnlyReads B.SectorDevice result reader.old reader.new }
     ensures extents { prepared.new.extents.now ≡ prepared.old.extents.now }
-    ensures contents { prepared.new.contents.now ≡ prepared.old.contents.now }
+    ensures below { prepared.new.tree.now ≡ prepared.old.tree.now }
     ensures ready { OnOk result ((k : ℕ) → k < pointer_count
         → state_at changes.now (record_of_strip strip k) ≡ Dirty
         → is_some (at_hand prepared.new.records id.0 (record_of_strip strip k)) ≡ true) }
     ensures kept { KeepsHand (at_hand prepared.old.records) (at_hand prepared.new.records) }
     ensures refused { IfErr result IsPrepareRefusal }
     ensures exact { IsTrue B.keeps_model → HoldsMap (bytes_of (B.disk reader.old).now) frame.now
-        (contents_of prepared.old.contents.now).objects id.0 changes.now map.now
+        (objects_of prepared.old.tree.now) id.0 changes.now map.now
         → AreExact (at_hand prepared.old.records)
-        (objects_with prepared.old.extents.now prepared.old.contents.now)
+        (objects_with prepared.old.extents.now prepared.old.tree.now)
         → OnOk result (AreExact (at_hand prepared.new.records)
-        (objects_with prepared.old.extents.now prepared.old.contents.now)) }
+        (objects_with prepared.old.extents.now prepared.old.tree.now)) }
     ensures sound { IsTrue B.keeps_model → HoldsMap (bytes_of (B.disk reader.old).now) frame.now
-        (contents_of prepared.old.contents.now).objects id.0 changes.now map.now
+        (objects_of prepared.old.tree.now) id.0 changes.now map.now
         → IfErr result IsPlainRefusal }
 {
     if !changes.writes_strip(strip) {
@@ -271,19 +270,19 @@ fn prepare_object<B: BlockReader>(
     requires number { id.0 < object_count }
     ensures reads { OnlyReads B.SectorDevice result reader.old reader.new }
     ensures extents { prepared.new.extents.now ≡ prepared.old.extents.now }
-    ensures contents { prepared.new.contents.now ≡ prepared.old.contents.now }
+    ensures below { prepared.new.tree.now ≡ prepared.old.tree.now }
     ensures ready { OnOk result
         (IsReady (λ r. is_some (at_hand prepared.new.records id.0 r) ≡ true) changes.now) }
     ensures kept { KeepsHand (at_hand prepared.old.records) (at_hand prepared.new.records) }
     ensures refused { IfErr result IsPrepareRefusal }
     ensures exact { IsTrue B.keeps_model → HoldsMap (bytes_of (B.disk reader.old).now) frame.now
-        (contents_of prepared.old.contents.now).objects id.0 changes.now map.now
+        (objects_of prepared.old.tree.now) id.0 changes.now map.now
         → AreExact (at_hand prepared.old.records)
-        (objects_with prepared.old.extents.now prepared.old.contents.now)
+        (objects_with prepared.old.extents.now prepared.old.tree.now)
         → OnOk result (AreExact (at_hand prepared.new.records)
-        (objects_with prepared.old.extents.now prepared.old.contents.now)) }
+        (objects_with prepared.old.extents.now prepared.old.tree.now)) }
     ensures sound { IsTrue B.keeps_model → HoldsMap (bytes_of (B.disk reader.old).now) frame.now
-        (contents_of prepared.old.contents.now).objects id.0 changes.now map.now
+        (objects_of prepared.old.tree.now) id.0 changes.now map.now
         → IfErr result IsPlainRefusal }
 {
     for strip in 0..changes.written_end() {
@@ -303,23 +302,23 @@ fn prepare_changed<B: BlockReader>(
 ) -> Result<(), PoolError>
     requires fits { block_address frame.now.blocks ≤ B.size reader.old }
     requires map { id.0 < object_count → HasReadMap
-        (objects_with prepared.old.extents.now prepared.old.contents.now)
+        (objects_with prepared.old.extents.now prepared.old.tree.now)
         source.now.old_maps.now.entries id.0 changes.now }
     ensures reads { OnlyReads B.SectorDevice result reader.old reader.new }
     ensures extents { prepared.new.extents.now ≡ prepared.old.extents.now }
-    ensures contents { prepared.new.contents.now ≡ prepared.old.contents.now }
+    ensures below { prepared.new.tree.now ≡ prepared.old.tree.now }
     ensures ready { OnOk result (id.0 < object_count
         → IsReady (λ r. is_some (at_hand prepared.new.records id.0 r) ≡ true) changes.now) }
     ensures kept { KeepsHand (at_hand prepared.old.records) (at_hand prepared.new.records) }
     ensures refused { IfErr result IsPrepareRefusal }
     ensures exact { IsTrue B.keeps_model → HoldsTree (bytes_of (B.disk reader.old).now) frame.now
-        (pointers_before source.now) (contents_of prepared.old.contents.now).objects
+        (pointers_before source.now) (objects_of prepared.old.tree.now)
         → AreExact (at_hand prepared.old.records)
-        (objects_with prepared.old.extents.now prepared.old.contents.now)
+        (objects_with prepared.old.extents.now prepared.old.tree.now)
         → OnOk result (AreExact (at_hand prepared.new.records)
-        (objects_with prepared.old.extents.now prepared.old.contents.now)) }
+        (objects_with prepared.old.extents.now prepared.old.tree.now)) }
     ensures sound { IsTrue B.keeps_model → HoldsTree (bytes_of (B.disk reader.old).now) frame.now
-        (pointers_before source.now) (contents_of prepared.old.contents.now).objects
+        (pointers_before source.now) (objects_of prepared.old.tree.now)
         → IfErr result IsPlainRefusal }
 {
     if id.0 >= OBJECT_COUNT {
@@ -329,7 +328,7 @@ fn prepare_changed<B: BlockReader>(
 }
 
 // The objects after a group, with each record at hand that the group changes. It reads those that the group does not
-// hide, for rising objects and in each for rising records. `extents` are the group's changes, over the contents of the
+// hide, for rising objects and in each for rising records. `extents` are the group's changes, over the objects of the
 // tree of the source. The source has the maps of these objects, which were read.
 //
 // - `ready`: a plan of these changes finds what it needs.
@@ -340,28 +339,27 @@ fn prepare_changed<B: BlockReader>(
 pub(crate) fn prepare<'a, B: BlockReader>(
     reader: &mut B,
     frame: &Frame,
-    source: &PlanSource<'_>,
+    source: &PlanSource<'a>,
     objects: &BTreeMap<ObjectId, ObjectChanges>,
     extents: &'a Extents,
-    contents: &'a Contents,
 ) -> Result<PreparedObjects<'a>, PoolError>
     requires fits { block_address frame.now.blocks ≤ B.size reader.old }
-    requires maps { AreMapsReadFor (objects_with extents.now contents.now) objects.now.entries
+    requires maps { AreMapsReadFor (objects_with extents.now source.now.tree.now) objects.now.entries
         source.now.old_maps.now.entries }
     ensures reads { OnlyReads B.SectorDevice result reader.old reader.new }
     ensures extents { IfOk result (λ p. p.extents.now ≡ extents.now) }
-    ensures contents { IfOk result (λ p. p.contents.now ≡ contents.now) }
+    ensures below { IfOk result (λ p. p.tree.now ≡ source.now.tree.now) }
     ensures ready { IfOk result (λ p.
         AreReady (λ n r. is_some (at_hand p.records n r) ≡ true) objects.now.entries) }
     ensures refused { IfErr result IsPrepareRefusal }
     ensures exact { IsTrue B.keeps_model → HoldsTree (bytes_of (B.disk reader.old).now) frame.now
-        (pointers_before source.now) (contents_of contents.now).objects
-        → IfOk result (λ p. AreExact (at_hand p.records) (objects_with extents.now contents.now)) }
+        (pointers_before source.now) (objects_of source.now.tree.now)
+        → IfOk result (λ p. AreExact (at_hand p.records) (objects_with extents.now source.now.tree.now)) }
     ensures sound { IsTrue B.keeps_model → HoldsTree (bytes_of (B.disk reader.old).now) frame.now
-        (pointers_before source.now) (contents_of contents.now).objects
+        (pointers_before source.now) (objects_of source.now.tree.now)
         → IfErr result IsPlainRefusal }
 {
-    let mut prepared = PreparedObjects::new(source.alloc, extents, contents);
+    let mut prepared = PreparedObjects::new(source.alloc, extents, source.tree);
     for (id, changes) in objects.iter() {
         prepare_changed(reader, frame, source, &mut prepared, *id, changes)?;
     }

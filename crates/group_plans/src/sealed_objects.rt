@@ -164,7 +164,7 @@ impl<'a, 'b> ObjectSource for SealedObjects<'a, 'b> {
     ghost objects = { λ s. prepared_objects s.prepared.now };
 
     fn length(&self, id: ObjectId) -> Option<u64> {
-        Laid::new(self.prepared.extents, self.prepared.contents).length(id)
+        Laid::new(self.prepared.extents, self.prepared.tree).length(id)
     }
 }
 

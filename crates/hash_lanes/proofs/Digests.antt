@@ -4,7 +4,7 @@ use Rattle.std.proofs.Common.{refl, sym, ap, ◌∙◌, arith, length-append}
 use Rattle.std.proofs.lemmas.List.{drop-append-le, drop_all}
 use Rattle.sha2.specs.Sha256.{compress, digest_bytes, hash_after, initial_hash_256, padded_message, padding, sha256}
 use Rattle.sha2.proofs.Absorbing256.{hash_after-append, hash_after_next}
-use Rattle.hash_lanes.specs.Lanes.{one_of}
+use Rattle.hash_lanes.specs.Lanes.{one_of, one_of_eight}
 
 -- the same of each message
 one_of-each : (f : List ℕ → List ℕ) (i : ℕ) (a b c d : List ℕ) → one_of i (f a) (f b) (f c) (f d) ≡ f (one_of i a b c d)
@@ -12,6 +12,14 @@ one_of-each f zero a b c d = refl
 one_of-each f (suc zero) a b c d = refl
 one_of-each f (suc (suc zero)) a b c d = refl
 one_of-each f (suc (suc (suc i))) a b c d = refl
+
+one_of_eight-each : (f : List ℕ → List ℕ) (i : ℕ) (a b c d e1 e2 e3 e4 : List ℕ)
+    → one_of_eight i (f a) (f b) (f c) (f d) (f e1) (f e2) (f e3) (f e4) ≡ f (one_of_eight i a b c d e1 e2 e3 e4)
+one_of_eight-each f zero a b c d e1 e2 e3 e4 = refl
+one_of_eight-each f (suc zero) a b c d e1 e2 e3 e4 = refl
+one_of_eight-each f (suc (suc zero)) a b c d e1 e2 e3 e4 = refl
+one_of_eight-each f (suc (suc (suc zero))) a b c d e1 e2 e3 e4 = refl
+one_of_eight-each f (suc (suc (suc (suc i)))) a b c d e1 e2 e3 e4 = one_of-each f i e1 e2 e3 e4
 
 -- n bytes from `at` on
 abbrev pub part : ℕ → ℕ → List ℕ → List ℕ
@@ -25,6 +33,14 @@ pub part_more : (i k at n : ℕ) (a b c d before after : List ℕ)
 part_more i k at n a b c d before after held place whole e =
     e ∙ ap (compress before) (one_of-each (part at n) i a b c d)
     ∙ rw (held, place, whole) (sym (hash_after_next initial_hash_256 (one_of i a b c d) k))
+
+pub part_more_eight : (i k at n : ℕ) (a b c d e1 e2 e3 e4 before after : List ℕ)
+    → before ≡ hash_after initial_hash_256 (one_of_eight i a b c d e1 e2 e3 e4) k → at ≡ k * 64 → n ≡ 64
+    → after ≡ compress before (one_of_eight i (part at n a) (part at n b) (part at n c) (part at n d) (part at n e1) (part at n e2) (part at n e3) (part at n e4))
+    → after ≡ hash_after initial_hash_256 (one_of_eight i a b c d e1 e2 e3 e4) (k + 1)
+part_more_eight i k at n a b c d e1 e2 e3 e4 before after held place whole e =
+    e ∙ ap (compress before) (one_of_eight-each (part at n) i a b c d e1 e2 e3 e4)
+    ∙ rw (held, place, whole) (sym (hash_after_next initial_hash_256 (one_of_eight i a b c d e1 e2 e3 e4) k))
 
 -- the part after a message of 4,096 bytes
 abbrev pub last_part : List ℕ

@@ -1,5 +1,5 @@
 -- Lists of vectors hold a list of words of each message.
-use Rattle.std.proofs.Common.{◌≡◌, ℕ, ◌+◌, ◌*◌, ◌%◌, ◌<◌, List, [], ◌∷◌, length, map, get_or}
+use Rattle.std.proofs.Common.{◌≡◌, ℕ, ◌+◌, ◌*◌, ◌%◌, ◌<◌, List, [], ◌∷◌, length, map, replicate, get_or}
 use Rattle.std.proofs.Common.{refl, ◌∙◌, inl, inr, arith}
 use Rattle.std.proofs.Math.ListN.{get_or-map, set}
 use Rattle.std.proofs.lemmas.Bool.{cases_lt}
@@ -17,9 +17,9 @@ pub get_or-lane : (i : ℕ) (vs : List (List ℕ)) (k : ℕ) → get_or (lane i 
 get_or-lane i vs k = get_or-map (λ v. get_or v i 0) vs k []
 
 -- the same words for each message
-pub lane-splats : (i : ℕ) → i < 4 → (xs : List ℕ) → lane i (map (λ x. x ∷ x ∷ x ∷ x ∷ []) xs) ≡ xs
-lane-splats i low [] = refl
-lane-splats i low (x ∷ xs) = λ k. (splat x).lanes i low k ∷ lane-splats i low xs k
+pub lane-splats : (n i : ℕ) → i < n → (xs : List ℕ) → lane i (map (λ x. replicate n x) xs) ≡ xs
+lane-splats n i low [] = refl
+lane-splats n i low (x ∷ xs) = λ k. (splat n x).lanes i low k ∷ lane-splats n i low xs k
 
 -- a ring of vectors with a new one at place k
 pub lane-set : (i : ℕ) (w next : List (List ℕ)) (k : ℕ) (word : List ℕ)

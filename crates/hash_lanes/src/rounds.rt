@@ -13,7 +13,7 @@ use std::simd::prelude::*;
 
 #[inline(always)]
 fn ch(x: u32x4, y: u32x4, z: u32x4) -> u32x4
-    ensures { HasLanes result (λ i. ch (slice_index x i) (slice_index y i) (slice_index z i)) }
+    ensures { HasLanes 4 result (λ i. ch (slice_index x i) (slice_index y i) (slice_index z i)) }
 {
     (x & y) ^ (!x & z)
 }
@@ -21,7 +21,7 @@ fn ch(x: u32x4, y: u32x4, z: u32x4) -> u32x4
 // One operation fewer than the standard's form, and another is shared: one round's `x ^ y` is the next round's `y ^ z`.
 #[inline(always)]
 fn maj(x: u32x4, y: u32x4, z: u32x4) -> u32x4
-    ensures { HasLanes result (λ i. maj (slice_index x i) (slice_index y i) (slice_index z i)) }
+    ensures { HasLanes 4 result (λ i. maj (slice_index x i) (slice_index y i) (slice_index z i)) }
 {
     y ^ ((x ^ y) & (y ^ z))
 }
@@ -31,35 +31,35 @@ fn maj(x: u32x4, y: u32x4, z: u32x4) -> u32x4
 fn rotate(x: u32x4, k: u32) -> u32x4
     requires low { 0 < k }
     requires high { k < 32 }
-    ensures { HasLanes result (λ i. rotate_right w32 (slice_index x i) k) }
+    ensures { HasLanes 4 result (λ i. rotate_right w32 (slice_index x i) k) }
 {
     (x >> u32x4::splat(k)) | (x << u32x4::splat(32 - k))
 }
 
 #[inline(always)]
 fn big_sigma0(x: u32x4) -> u32x4
-    ensures { HasLanes result (λ i. big_sigma0 (slice_index x i)) }
+    ensures { HasLanes 4 result (λ i. big_sigma0 (slice_index x i)) }
 {
     rotate(x, 2) ^ rotate(x, 13) ^ rotate(x, 22)
 }
 
 #[inline(always)]
 fn big_sigma1(x: u32x4) -> u32x4
-    ensures { HasLanes result (λ i. big_sigma1 (slice_index x i)) }
+    ensures { HasLanes 4 result (λ i. big_sigma1 (slice_index x i)) }
 {
     rotate(x, 6) ^ rotate(x, 11) ^ rotate(x, 25)
 }
 
 #[inline(always)]
 fn small_sigma0(x: u32x4) -> u32x4
-    ensures { HasLanes result (λ i. small_sigma0 (slice_index x i)) }
+    ensures { HasLanes 4 result (λ i. small_sigma0 (slice_index x i)) }
 {
     rotate(x, 7) ^ rotate(x, 18) ^ (x >> u32x4::splat(3))
 }
 
 #[inline(always)]
 fn small_sigma1(x: u32x4) -> u32x4
-    ensures { HasLanes result (λ i. small_sigma1 (slice_index x i)) }
+    ensures { HasLanes 4 result (λ i. small_sigma1 (slice_index x i)) }
 {
     rotate(x, 17) ^ rotate(x, 19) ^ (x >> u32x4::splat(10))
 }
@@ -67,7 +67,7 @@ fn small_sigma1(x: u32x4) -> u32x4
 // W t of each message, from the words 16, 15, 7 and 2 before it (6.2.2, step 1).
 #[inline(always)]
 fn word_after(w16: u32x4, w15: u32x4, w7: u32x4, w2: u32x4) -> u32x4
-    ensures { HasLanes result (λ i. add32 (add32 (add32 (small_sigma1 (slice_index w2 i))
+    ensures { HasLanes 4 result (λ i. add32 (add32 (add32 (small_sigma1 (slice_index w2 i))
         (slice_index w7 i)) (small_sigma0 (slice_index w15 i))) (slice_index w16 i)) }
 {
     small_sigma1(w2) + w7 + small_sigma0(w15) + w16
@@ -77,7 +77,7 @@ fn word_after(w16: u32x4, w15: u32x4, w7: u32x4, w2: u32x4) -> u32x4
 #[inline(always)]
 fn next_word(w: &mut [u32x4; 16], place: usize) -> u32x4
     requires { place < 16 }
-    ensures value { HasLanes result (λ i. window_word (lane i w.old) place) }
+    ensures value { HasLanes 4 result (λ i. window_word (lane i w.old) place) }
     ensures window { w.new ≡ slice_set w.old place result }
 {
     let word = word_after(
@@ -92,7 +92,7 @@ fn next_word(w: &mut [u32x4; 16], place: usize) -> u32x4
 
 #[inline(always)]
 fn add(x: u32x4, y: u32x4) -> u32x4
-    ensures { HasLanes result (λ i. add32 (slice_index x i) (slice_index y i)) }
+    ensures { HasLanes 4 result (λ i. add32 (slice_index x i) (slice_index y i)) }
 {
     x + y
 }
@@ -100,7 +100,7 @@ fn add(x: u32x4, y: u32x4) -> u32x4
 // T 1 of a round (6.2.2, step 3).
 #[inline(always)]
 fn temp1(e: u32x4, f: u32x4, g: u32x4, h: u32x4, k: u32, word: u32x4) -> u32x4
-    ensures { HasLanes result (λ i. add32 (add32 (add32 (add32 (slice_index h i)
+    ensures { HasLanes 4 result (λ i. add32 (add32 (add32 (add32 (slice_index h i)
         (big_sigma1 (slice_index e i))) (ch (slice_index e i) (slice_index f i) (slice_index g i)))
         k) (slice_index word i)) }
 {
@@ -110,7 +110,7 @@ fn temp1(e: u32x4, f: u32x4, g: u32x4, h: u32x4, k: u32, word: u32x4) -> u32x4
 // T 2 of a round (6.2.2, step 3).
 #[inline(always)]
 fn temp2(a: u32x4, b: u32x4, c: u32x4) -> u32x4
-    ensures { HasLanes result (λ i. add32 (big_sigma0 (slice_index a i))
+    ensures { HasLanes 4 result (λ i. add32 (big_sigma0 (slice_index a i))
         (maj (slice_index a i) (slice_index b i) (slice_index c i))) }
 {
     big_sigma0(a) + maj(a, b, c)
@@ -193,7 +193,7 @@ fn load_words(a: &[u8], b: &[u8], c: &[u8], d: &[u8], at: usize) -> u32x4
     requires b { at + 4 ≤ length b.now }
     requires c { at + 4 ≤ length c.now }
     requires d { at + 4 ≤ length d.now }
-    ensures { HasLanes result (λ i. word_at (one_of i a.now b.now c.now d.now) at) }
+    ensures { HasLanes 4 result (λ i. word_at (one_of i a.now b.now c.now d.now) at) }
 {
     u32x4::from_array([
         load_be(a, at),

@@ -24,11 +24,11 @@ use Rattle.base.specs.formats.Uberblocks.{Uberblock}
 use Rattle.base.proofs.steps.KeptTables.{new_pools_are_explained}
 use Rattle.base.proofs.steps.ListedLengths.{lengths_stay_listed}
 use Rattle.base.proofs.tree.PlacedTrees.{holds-tree, in-tree, told-in_tree}
-use Rattle.contents.specs.declared.contents.Slot.{Slot}
 use Rattle.tree_blocks.specs.declared.tree.Tree.{Tree}
-use Rattle.contents.specs.declared.contents.Contents as declared
-use Rattle.contents.specs.ContentsShown.{contents_of, objects_of}
-use Rattle.tree_blocks.specs.Lengths.{lengths_of}
+use Rattle.contents.specs.declared.synced_tree.SyncedTree.{SyncedTree}
+use Rattle.contents.specs.ContentsShown.{contents_of}
+use Rattle.tree_blocks.specs.TreeObjects.{objects_of}
+use Rattle.tree_blocks.specs.TreeObjects.{lengths_of}
 use Rattle.tree_blocks.specs.Pointers.{pointers_of}
 use Rattle.sync.specs.Made.{BlocksWritten}
 use Rattle.tree_plans.specs.declared.planner.PlannedBlock.{PlannedBlock}
@@ -61,31 +61,31 @@ used_on_image image size u tree objects chain held root address block (inl named
 used_on_image image size u tree objects chain held root address block (inr logged) = inr logged
 
 -- the tree that was loaded is that of a pool without a damage
-pub sound_pool : (size : ℕ) (u : Uberblock) (name : List ℕ) (tree : Tree) (slots : List Slot) (image : List ℕ) → length image ≡ size → HoldsTree image (frame_of_size u size) (pointers_of tree) (objects_of slots)
+pub sound_pool : (size : ℕ) (u : Uberblock) (name : List ℕ) (tree : Tree) (image : List ℕ) → length image ≡ size → HoldsTree image (frame_of_size u size) (pointers_of tree) (objects_of tree)
     → tree.root ≡ u.root → HasPool image u name → HasSoundPool image u name
-sound_pool size u name tree slots image long held root pool = record {
+sound_pool size u name tree image long held root pool = record {
   pool = pool;
-  objects = objects_of slots;
-  tree = subst (λ (n : ℕ). IsTree image (frame_of_size u n) u.root (objects_of slots)) (sym long)
-      (subst (λ (p : Pointer). IsTree image (frame_of_size u size) p (objects_of slots)) root (holds-tree image (frame_of_size u size) (pointers_of tree) (objects_of slots) held));
+  objects = objects_of tree;
+  tree = subst (λ (n : ℕ). IsTree image (frame_of_size u n) u.root (objects_of tree)) (sym long)
+      (subst (λ (p : Pointer). IsTree image (frame_of_size u size) p (objects_of tree)) root (holds-tree image (frame_of_size u size) (pointers_of tree) (objects_of tree) held));
 }
 
 -- that pool is found in the image with its name, its objects and its chain
-pub found_read : (image : List ℕ) (size : ℕ) (u : Uberblock) (name : List ℕ) (tree : Tree) (slots : List Slot) (chain : List LogPiece) → IsReadPool image size u name tree slots chain
-    → (c : declared.Contents) → c.name ≡ name → c.slots.items ≡ slots → IsFound image u (contents_of c) chain
-found_read image size u name tree slots chain read c named same = record {
+pub found_read : (image : List ℕ) (size : ℕ) (u : Uberblock) (name : List ℕ) (tree : Tree) (chain : List LogPiece) → IsReadPool image size u name tree chain
+    → (c : SyncedTree) → c.name ≡ name → c.tree ≡ tree → IsFound image u (contents_of c) chain
+found_read image size u name tree chain read c named same = record {
   pool = subst (λ (n : List ℕ). HasPool image u n) (sym named) read.pool;
-  tree = subst (λ (l : List Slot). IsTree image (frame_of_size u (length image)) u.root (objects_of l)) (sym same)
-      (subst (λ (n : ℕ). IsTree image (frame_of_size u n) u.root (objects_of slots)) (sym read.long)
-      (subst (λ (p : Pointer). IsTree image (frame_of_size u size) p (objects_of slots)) read.root (holds-tree image (frame_of_size u size) (pointers_of tree) (objects_of slots) read.held)));
+  tree = subst (λ (t : Tree). IsTree image (frame_of_size u (length image)) u.root (objects_of t)) (sym same)
+      (subst (λ (n : ℕ). IsTree image (frame_of_size u n) u.root (objects_of tree)) (sym read.long)
+      (subst (λ (p : Pointer). IsTree image (frame_of_size u size) p (objects_of tree)) read.root (holds-tree image (frame_of_size u size) (pointers_of tree) (objects_of tree) read.held)));
   chain_is = read.chain_is;
 }
 
 -- and the image mounts what the records of its chain make of it
-pub mounts_read : (image : List ℕ) (size : ℕ) (u : Uberblock) (name : List ℕ) (tree : Tree) (slots : List Slot) (chain : List LogPiece) → IsReadPool image size u name tree slots chain
-    → (c : declared.Contents) → c.name ≡ name → c.slots.items ≡ slots → (contents : Contents) → apply_records (records_above u.group chain) (contents_of c) ≡ Ok contents → Mounts image u chain contents
-mounts_read image size u name tree slots chain read c named same contents applied =
-    record { synced = contents_of c; found = found_read image size u name tree slots chain read c named same; applied = applied }
+pub mounts_read : (image : List ℕ) (size : ℕ) (u : Uberblock) (name : List ℕ) (tree : Tree) (chain : List LogPiece) → IsReadPool image size u name tree chain
+    → (c : SyncedTree) → c.name ≡ name → c.tree ≡ tree → (contents : Contents) → apply_records (records_above u.group chain) (contents_of c) ≡ Ok contents → Mounts image u chain contents
+mounts_read image size u name tree chain read c named same contents applied =
+    record { synced = contents_of c; found = found_read image size u name tree chain read c named same; applied = applied }
 
 -- the numbers of an import that is not past the last
 pub group-within : (group import_number : ℕ) → is_past_last group import_number ≡ false → group + 5 ≤ last_number
@@ -124,7 +124,7 @@ module _ (size : ℕ) (u : Uberblock) (p : PoolParts) (dirty_max : ℕ) (m : Mou
     log_number = refl;
     sync = refl;
     synced_are = refl;
-    lengths = lengths_stay_listed (contents_of m.contents) (lengths_of m.tree) limited.lengths;
+    lengths = lengths_stay_listed (contents_of m.contents) (lengths_of m.contents.tree) (λ n low. m.contents.tree.sized n);
   }
 
   within_last : u.group + 5 ≤ last_number
@@ -146,7 +146,7 @@ module _ (size : ℕ) (u : Uberblock) (p : PoolParts) (dirty_max : ℕ) (m : Mou
   module _ (parts : ArePartsFor size p) (image now : List ℕ) (chain : List LogPiece) (blocks : List PlannedBlock) (long : length image ≡ size) (over : AreMadeOver image u chain size blocks p) (same_long : length now ≡ length image)
       (written : BlocksWritten image size blocks (length blocks) now) where
     abbrev pointers : Place → Pointer
-    pointers = pointers_of m.tree
+    pointers = pointers_of m.contents.tree
 
     abbrev objects : FinMap nat_cmp (List ℕ)
     objects = (contents_of m.contents).objects
@@ -164,13 +164,13 @@ module _ (size : ℕ) (u : Uberblock) (p : PoolParts) (dirty_max : ℕ) (m : Mou
         frames : next_frame u size ≡ frame_of_import m
         frames = λ i. record { version = written_version; guid = (sym from.guid) i; blocks = block_count ((sym from.geometry) i); group = (sym from.group) i }
 
-    in_now : (address : ℕ) → address ≢ 0 → IsNamed pointers address → IsInTree now m.tree.root address
+    in_now : (address : ℕ) → address ≢ 0 → IsNamed pointers address → IsInTree now m.contents.tree.root address
     in_now address = tree-of_named now (frame_of_import m) pointers objects holds_now address
 
-    now_named : (address : ℕ) → IsInTree now m.tree.root address → IsNamed pointers address
+    now_named : (address : ℕ) → IsInTree now m.contents.tree.root address → IsNamed pointers address
     now_named address = named-of_tree now (frame_of_import m) pointers objects holds_now address
 
-    first_log_block : IsFirstLogBlock image u chain now m.tree.root m.log_address
+    first_log_block : IsFirstLogBlock image u chain now m.contents.tree.root m.log_address
     first_log_block = record {
       in_area = subst (λ (n : ℕ). IsBlockAddress (block_count n) m.log_address) (from.geometry ∙ sym long) mine.log_block;
       not_old = made.log_unused;
@@ -195,7 +195,7 @@ module _ (size : ℕ) (u : Uberblock) (p : PoolParts) (dirty_max : ℕ) (m : Mou
         not_logged address free (inr is) = let none : None ≡ Some is.1 = is.2 in cc
 
         other : (address : ℕ) → IsBlockAddress (block_count m.geometry) address → IsNamed pointers address ⊎ (address ≡ m.log_address)
-            → IsInTree now m.tree.root address ⊎ (IsInLog shown.log address ⊎ (false ≡ true))
+            → IsInTree now m.contents.tree.root address ⊎ (IsInLog shown.log address ⊎ (false ≡ true))
         other address block (inl named) = inl (in_now address (not_zero (block_count m.geometry) address block) named)
         other address block (inr is) = inr (inl (inl is))
 

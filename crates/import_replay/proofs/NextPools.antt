@@ -26,9 +26,9 @@ use Rattle.base.specs.formats.Limits.{object_count}
 use Rattle.base.specs.formats.Names.{IsName}
 use Rattle.base.specs.formats.Uberblocks.{Uberblock}
 use Rattle.base.specs.formats.Versions.{is_version_known, written_version}
-use Rattle.base.specs.history.Contents.{Contents, length_of}
+use Rattle.base.specs.history.Contents.{Contents}
 use Rattle.base.specs.kept.Stored.{AreBlocks, AreUsed}
-use Rattle.base.specs.kept.PlacedTrees.{ArePlaced, HoldsTree, IsPlaced}
+use Rattle.base.specs.kept.PlacedTrees.{ArePlaced, IsPlaced}
 use Rattle.base.specs.tree.Places.{IsInTree, Place, has_block}
 use Rattle.base.specs.kept.PlannedTrees.{AreFreed, IsTreePlan, NewBlock}
 use Rattle.base.specs.tree.Syncs.{group_changes, written_places}
@@ -41,19 +41,16 @@ use Rattle.base.proofs.tree.FreedBlocks.{IsNewAddress}
 use Rattle.base.proofs.tree.PlacedTrees.{holds-tree, none_or_opens, pointers-told}
 use Rattle.base.proofs.stored.StoredSets.{IsAt, map-at, rising-in, rising-rises}
 use Rattle.group_plans.specs.GroupPlans.{MakesGroupTree, plan_pointers}
-use Rattle.tree_blocks.specs.SyncedTrees.{lengths_after}
-use Rattle.group_plans.specs.OldMaps.{HoldsTreeOf}
-use Rattle.group_plans.proofs.GroupChanges.{lengths_told}
+use Rattle.group_plans.specs.OldMaps.{HoldsOwn}
 use Rattle.group_plans.proofs.GroupCounts.{AreNamedAs, plans_fit_estimates, short_of_these, short_plans_lack_blocks, takes_at_places}
 use Rattle.group_plans.proofs.GroupTrees.{plans_make_trees}
 use Rattle.group_plans.proofs.PlannedBlocks.{addresses_are}
 use Rattle.intent_log.specs.Chains.{IsSoundPiece}
 use Rattle.log_replay.specs.Replays.{IsPieceAllowed, IsChainAllowed, IsReplayCause, IsReplayRefusal}
-use Rattle.contents.specs.ContentsShown.{contents_of, objects_of}
-use Rattle.tree_blocks.specs.Lengths.{HasLengthsOf}
+use Rattle.contents.specs.ContentsShown.{contents_of}
+use Rattle.tree_blocks.specs.TreeObjects.{objects_of}
 use Rattle.trees.specs.Loading.{IsLimitedObject}
 use Rattle.tree_blocks.specs.Pointers.{pointers_of}
-use Rattle.contents.specs.declared.contents.Slot.{Slot}
 use Rattle.tree_blocks.specs.declared.tree.Tree.{Tree}
 use Rattle.space.proofs.FreeLists.{length-rising}
 use Rattle.sync.specs.Made.{BlocksWritten}
@@ -128,28 +125,28 @@ pub chain_allowed : (size : ℕ) (chain : List LogPiece) → All (IsSoundPiece (
 chain_allowed size chain sound = All-weaker (IsSoundPiece (block_count size)) IsPieceAllowed (λ b is. is.allowed) chain sound
 
 -- and the pointers of the tree that was loaded are placed
-pub loaded_placed : (size : ℕ) (u : Uberblock) (name : List ℕ) (tree : Tree) (slots : List Slot) (chain : List LogPiece) (pool : ReplayedPool) → IsLoadedFor u (block_count size) tree slots chain
-    → IsReplayedPool size u.group name tree slots chain pool → ∥ ArePlaced (block_count size) (pointers_of pool.tree) ∥₁
-loaded_placed size u name tree slots chain pool loaded r = ∣ subst (λ (t : Tree). ArePlaced (block_count size) (pointers_of t)) (sym r.tree_is) loaded.placed ∣₁
+pub loaded_placed : (size : ℕ) (u : Uberblock) (name : List ℕ) (tree : Tree) (chain : List LogPiece) (pool : ReplayedPool) → IsLoadedFor u (block_count size) tree chain
+    → IsReplayedPool size u.group name tree chain pool → ∥ ArePlaced (block_count size) (pointers_of pool.synced.tree) ∥₁
+loaded_placed size u name tree chain pool loaded r = ∣ subst (λ (t : Tree). ArePlaced (block_count size) (pointers_of t)) (sym r.tree_is) loaded.placed ∣₁
 
 -- if a record is refused, the chain is damaged
-pub reason_of_replay : (image : List ℕ) (size : ℕ) (u : Uberblock) (name : List ℕ) (tree : Tree) (slots : List Slot) (chain : List LogPiece) → IsReadPool image size u name tree slots chain → (e : PoolError)
-    → IsReplayCause e → IsReplayRefusal (records_above u.group chain) (synced_with name slots) e → IsReason image e
-reason_of_replay image size u name tree slots chain read e cause refused = reason-record image e cause (λ address is. by_refusal address is refused)
+pub reason_of_replay : (image : List ℕ) (size : ℕ) (u : Uberblock) (name : List ℕ) (tree : Tree) (chain : List LogPiece) → IsReadPool image size u name tree chain → (e : PoolError)
+    → IsReplayCause e → IsReplayRefusal (records_above u.group chain) (synced_with name tree) e → IsReason image e
+reason_of_replay image size u name tree chain read e cause refused = reason-record image e cause (λ address is. by_refusal address is refused)
   where
-    by_refusal : (address : ℕ) → e ≡ Damaged 6 address → IsReplayRefusal (records_above u.group chain) (synced_with name slots) e → IsChainDamaged image address
+    by_refusal : (address : ℕ) → e ≡ Damaged 6 address → IsReplayRefusal (records_above u.group chain) (synced_with name tree) e → IsChainDamaged image address
     by_refusal address is (inl memory) = absurd (let no_way : Damaged 6 address ≡ NoMemory = sym is ∙ memory in cc)
     by_refusal address is (inr (there, same, r)) =
         let both : Damaged 6 there ≡ Damaged 6 address = sym same ∙ is in
         let place : there ≡ address = cc in
         record {
           u = u;
-          synced = synced_with name slots;
+          synced = synced_with name tree;
           chain = chain;
           found = record {
             pool = read.pool;
-            tree = subst (λ (n : ℕ). IsTree image (frame_of_size u n) u.root (objects_of slots)) (sym read.long)
-                (subst (λ (p : Pointer). IsTree image (frame_of_size u size) p (objects_of slots)) read.root (holds-tree image (frame_of_size u size) (pointers_of tree) (objects_of slots) read.held));
+            tree = subst (λ (n : ℕ). IsTree image (frame_of_size u n) u.root (objects_of tree)) (sym read.long)
+                (subst (λ (p : Pointer). IsTree image (frame_of_size u size) p (objects_of tree)) read.root (holds-tree image (frame_of_size u size) (pointers_of tree) (objects_of tree) read.held));
             chain_is = read.chain_is;
           };
           before = r.before;
@@ -163,41 +160,30 @@ reason_of_replay image size u name tree slots chain read e cause refused = reaso
           address_is = r.address_is ∙ place;
         }
 
--- the tree that was loaded has the lengths of its objects
-loaded_lengths : (size : ℕ) (group : ℕ) (name : List ℕ) (tree : Tree) (slots : List Slot) (chain : List LogPiece) (pool : ReplayedPool) → IsReplayedPool size group name tree slots chain pool
-    → HasLengthsOf tree (objects_of slots) → HasLengthsOf pool.tree (contents_of pool.synced).objects
-loaded_lengths size group name tree slots chain pool r lengths =
-    subst (λ (t : Tree). HasLengthsOf t (objects_of pool.synced.slots.items)) (sym r.tree_is) (subst (λ (l : List Slot). HasLengthsOf tree (objects_of l)) (sym r.slots_are) lengths)
-
 -- while nothing is written, the device holds the tree that was loaded
-pub loaded_held : (size : ℕ) (u : Uberblock) (name : List ℕ) (tree : Tree) (slots : List Slot) (chain : List LogPiece) (pool : ReplayedPool) → IsReplayedPool size u.group name tree slots chain pool
-    → HasLengthsOf tree (objects_of slots) → (mid before : Disk) → before ≡ mid → IsReadPool (bytes_of mid.now) size u name tree slots chain
-    → HoldsTreeOf (bytes_of before.now) (frame_of_size u size) pool.tree (contents_of pool.synced).objects
-loaded_held size u name tree slots chain pool r lengths mid before same read = record {
-  held = subst (λ (d : Disk). HoldsTree (bytes_of d.now) (frame_of_size u size) (pointers_of pool.tree) (contents_of pool.synced).objects) (sym same)
-      (subst (λ (t : Tree). HoldsTree (bytes_of mid.now) (frame_of_size u size) (pointers_of t) (objects_of pool.synced.slots.items)) (sym r.tree_is)
-      (subst (λ (l : List Slot). HoldsTree (bytes_of mid.now) (frame_of_size u size) (pointers_of tree) (objects_of l)) (sym r.slots_are) read.held));
-  lengths = loaded_lengths size u.group name tree slots chain pool r lengths;
-}
+pub loaded_held : (size : ℕ) (u : Uberblock) (name : List ℕ) (tree : Tree) (chain : List LogPiece) (pool : ReplayedPool) → IsReplayedPool size u.group name tree chain pool
+    → (mid before : Disk) → before ≡ mid → IsReadPool (bytes_of mid.now) size u name tree chain → HoldsOwn (bytes_of before.now) (frame_of_size u size) pool.synced.tree
+loaded_held size u name tree chain pool r mid before same read =
+    subst (λ (d : Disk). HoldsOwn (bytes_of d.now) (frame_of_size u size) pool.synced.tree) (sym same)
+    (subst (λ (t : Tree). HoldsOwn (bytes_of mid.now) (frame_of_size u size) t) (sym r.tree_is) read.held)
 
 -- what was found, loaded, replayed and planned; where this holds, the plan holds the objects
-pub record IsPrepared (holds : Type 0) (size : ℕ) (u : Uberblock) (name : List ℕ) (tree : Tree) (slots : List Slot) (chain : List LogPiece) (pool : ReplayedPool) (next : NextPool) : Type 0 where
+pub record IsPrepared (holds : Type 0) (size : ℕ) (u : Uberblock) (name : List ℕ) (tree : Tree) (chain : List LogPiece) (pool : ReplayedPool) (next : NextPool) : Type 0 where
   pub named : IsName name
-  pub loaded : IsLoadedFor u (block_count size) tree slots chain
-  pub replayed : IsReplayedPool size u.group name tree slots chain pool
+  pub loaded : IsLoadedFor u (block_count size) tree chain
+  pub replayed : IsReplayedPool size u.group name tree chain pool
   pub planned : IsPlannedPool holds size u pool next
 
 -- A pool whose records were replayed, over an image that was read.
-module _ (size : ℕ) (u : Uberblock) (name : List ℕ) (tree : Tree) (slots : List Slot) (chain : List LogPiece) (pool : ReplayedPool) (named : IsName name) (loaded : IsLoadedFor u (block_count size) tree slots chain)
-    (r : IsReplayedPool size u.group name tree slots chain pool) (image : List ℕ) (read : IsReadPool image size u name tree slots chain) where
-  mine_read : IsReadPool image size u name pool.tree pool.synced.slots.items chain
-  mine_read = subst (λ (t : Tree). IsReadPool image size u name t pool.synced.slots.items chain) (sym r.tree_is)
-      (subst (λ (l : List Slot). IsReadPool image size u name tree l chain) (sym r.slots_are) read)
+module _ (size : ℕ) (u : Uberblock) (name : List ℕ) (tree : Tree) (chain : List LogPiece) (pool : ReplayedPool) (named : IsName name) (loaded : IsLoadedFor u (block_count size) tree chain)
+    (r : IsReplayedPool size u.group name tree chain pool) (image : List ℕ) (read : IsReadPool image size u name tree chain) where
+  mine_read : IsReadPool image size u name pool.synced.tree chain
+  mine_read = subst (λ (t : Tree). IsReadPool image size u name t chain) (sym r.tree_is) read
 
   -- a spare block is not used, and a block that is not used is spare
   spare-unused : (address : ℕ) → set.contains pool.spare.free address ≡ true → IsUsed image u.root chain address → ⊥
   spare-unused address spare (inl is) =
-      r.spare.unused address spare (inl (named-of_tree image (frame_of_size u size) (pointers_of pool.tree) (objects_of pool.synced.slots.items) mine_read.held address
+      r.spare.unused address spare (inl (named-of_tree image (frame_of_size u size) (pointers_of pool.synced.tree) (objects_of pool.synced.tree) mine_read.held address
       (subst (λ (p : Pointer). IsInTree image p address) (sym mine_read.root) is)))
   spare-unused address spare (inr is) = r.spare.unused address spare (inr is)
 
@@ -206,15 +192,15 @@ module _ (size : ℕ) (u : Uberblock) (name : List ℕ) (tree : Tree) (slots : L
     where
       by_flag : (b : Bool) → set.contains pool.spare.free address ≡ b → (set.contains pool.spare.free address ≡ true) ⊎ IsUsed image u.root chain address
       by_flag true free = inl free
-      by_flag false used = inr (used_on_image image size u pool.tree (objects_of pool.synced.slots.items) chain mine_read.held mine_read.root address is (r.spare.others address used is))
+      by_flag false used = inr (used_on_image image size u pool.synced.tree (objects_of pool.synced.tree) chain mine_read.held mine_read.root address is (r.spare.others address used is))
 
   -- the image mounts what the records leave
-  pub replay_mounts : Mounts image u chain (replays.after size u name tree slots chain pool named loaded r)
-  replay_mounts = mounts_read image size u name pool.tree pool.synced.slots.items chain mine_read pool.synced r.name_is refl (replays.after size u name tree slots chain pool named loaded r) r.replayed.applied
+  pub replay_mounts : Mounts image u chain (replays.after size u name tree chain pool named loaded r)
+  replay_mounts = mounts_read image size u name pool.synced.tree chain mine_read pool.synced r.name_is refl (replays.after size u name tree chain pool named loaded r) r.replayed.applied
 
   -- so the numbers are those of an image that mounts contents
   pub last_numbers : is_past_last u.group u.import_number ≡ true → HasLastNumbers image
-  last_numbers past_last = record { u = u; chain = chain; contents = replays.after size u name tree slots chain pool named loaded r; mounts = replay_mounts; past_last = past_last }
+  last_numbers past_last = record { u = u; chain = chain; contents = replays.after size u name tree chain pool named loaded r; mounts = replay_mounts; past_last = past_last }
 
   -- no more blocks are spare than a plan that takes all of them has
   all_taken : (plan : TreePlan) → AreAllPlanned pool.spare plan.blocks.items → set.len pool.spare.free ≤ length plan.blocks.items
@@ -229,34 +215,34 @@ module _ (size : ℕ) (u : Uberblock) (name : List ℕ) (tree : Tree) (slots : L
       omega (arith, within, short, long)
 
   -- the tree's pointers name a block where the image has one
-  had_block : AreNamedAs (pointers_of pool.tree) (has_block image u.root)
+  had_block : AreNamedAs (pointers_of pool.synced.tree) (has_block image u.root)
   had_block place in_range =
-      ap (λ (q : Pointer). not (q.address == 0)) (sym (pointers-told image (frame_of_size u size) (pointers_of pool.tree) (objects_of pool.synced.slots.items) mine_read.held place in_range))
+      ap (λ (q : Pointer). not (q.address == 0)) (sym (pointers-told image (frame_of_size u size) (pointers_of pool.synced.tree) (objects_of pool.synced.tree) mine_read.held place in_range))
       ∙ ap (λ (q : Pointer). has_block image q place) mine_read.root
 
   -- what the records leave, and the places that they write
   abbrev left_by : Contents
-  left_by = replays.after size u name tree slots chain pool named loaded r
+  left_by = replays.after size u name tree chain pool named loaded r
 
   abbrev pending : List Op
   pending = pending_ops (u.group + 4) pool.replayed.records.items
 
   places-replayed : replayed_places image u chain (contents_of pool.synced) ≡ written_places pending (contents_of pool.synced) (has_block image u.root)
-  places-replayed = ap (λ (ops : List Op). written_places ops (contents_of pool.synced) (has_block image u.root)) (replays.ops_replayed size u name tree slots chain pool named loaded r)
+  places-replayed = ap (λ (ops : List Op). written_places ops (contents_of pool.synced) (has_block image u.root)) (replays.ops_replayed size u name tree chain pool named loaded r)
 
   -- where blocks lack for the tree, no more are spare than these places
   few_spare : LacksTreeBlocks size u pool → set.len pool.spare.free ≤ length (replayed_places image u chain (contents_of pool.synced))
   few_spare (inl short) =
-      let fewer = short_of_these (u.group + 4) pool.replayed.records.items pool.tree.entries.items (contents_of pool.synced) left_by (replays.takes_place size u name tree slots chain pool named loaded r) (replays.sized size u name tree slots chain pool named loaded r) (pointers_of pool.tree)
+      let fewer = short_of_these (u.group + 4) pool.replayed.records.items pool.synced.tree.entries.items (contents_of pool.synced) left_by (replays.takes_place size u name tree chain pool named loaded r) (replays.sized size u name tree chain pool named loaded r) (pointers_of pool.synced.tree)
       (rising pool.spare.free) short (has_block image u.root) had_block in
       let count = length-rising pool.spare.free in
       let same = ap (λ (l : List Place). length l) places-replayed in
       omega (arith, fewer, count, same)
   few_spare (inr (plan, makes, all)) =
       let places : List Place = written_places pending (contents_of pool.synced) (has_block image u.root) in
-      let new : Place → Pointer = plan_pointers pool.tree plan in
+      let new : Place → Pointer = plan_pointers pool.synced.tree plan in
       let bs : List NewBlock = map new_block plan.blocks.items in
-      let each = takes_at_places (u.group + 4) pool.replayed.records.items pool.tree.entries.items (contents_of pool.synced) left_by (replays.takes_place size u name tree slots chain pool named loaded r) (replays.sized size u name tree slots chain pool named loaded r) (pointers_of pool.tree)
+      let each = takes_at_places (u.group + 4) pool.replayed.records.items pool.synced.tree.entries.items (contents_of pool.synced) left_by (replays.takes_place size u name tree chain pool named loaded r) (replays.sized size u name tree chain pool named loaded r) (pointers_of pool.synced.tree)
       new bs plan.freed.items makes.made.places (has_block image u.root) had_block in
       let many : length places ≡ length plan.blocks.items =
       sym (length-map places (λ (place : Place). (new place).address)) ∙ ap (λ (l : List ℕ). length l) each ∙ length-map bs (λ (b : NewBlock). b.address) ∙ length-map plan.blocks.items new_block in
@@ -275,22 +261,22 @@ module _ (size : ℕ) (u : Uberblock) (name : List ℕ) (tree : Tree) (slots : L
     spare = pool.spare.free;
     all = λ address is unused. ⊎_elim (λ spare. spare) (λ used. absurd (unused used)) (spare-or_used address (subst (λ (n : ℕ). IsBlockAddress (block_count n) address) read.long is));
     synced = contents_of pool.synced;
-    found = found_read image size u name pool.tree pool.synced.slots.items chain mine_read pool.synced r.name_is refl;
+    found = found_read image size u name pool.synced.tree chain mine_read pool.synced r.name_is refl;
     few = few_spare lacks;
     estimated = ⊎_elim
         (λ short.
-        let fewer = short_plans_lack_blocks (u.group + 4) pool.tree pool.replayed.records.items short.0 (contents_of pool.synced) (replays.after size u name tree slots chain pool named loaded r) pool.spare.free short.1 (replays.takes_place size u name tree slots chain pool named loaded r) (replays.sized size u name tree slots chain pool named loaded r) in
+        let fewer = short_plans_lack_blocks (u.group + 4) pool.synced.tree pool.replayed.records.items short.0 (contents_of pool.synced) (replays.after size u name tree chain pool named loaded r) pool.spare.free short.1 (replays.takes_place size u name tree chain pool named loaded r) (replays.sized size u name tree chain pool named loaded r) in
         let count = length-rising pool.spare.free in
-        let same = replays.estimate size u name tree slots chain pool named loaded r in
+        let same = replays.estimate size u name tree chain pool named loaded r in
         omega (arith, fewer, count, same))
         (λ takes.
-        let fits = plans_fit_estimates (next_frame u size) pool.tree pool.replayed.records.items (contents_of pool.synced) (replays.after size u name tree slots chain pool named loaded r) takes.0 takes.1 (replays.takes_place size u name tree slots chain pool named loaded r) (replays.sized size u name tree slots chain pool named loaded r) in
+        let fits = plans_fit_estimates (next_frame u size) pool.synced.tree pool.replayed.records.items (contents_of pool.synced) (replays.after size u name tree chain pool named loaded r) takes.0 takes.1 (replays.takes_place size u name tree chain pool named loaded r) (replays.sized size u name tree chain pool named loaded r) in
         let all = all_taken takes.0 takes.2 in
-        let same = replays.estimate size u name tree slots chain pool named loaded r in
+        let same = replays.estimate size u name tree chain pool named loaded r in
         omega (arith, fits, all, same)) full;
   }
 
-module _ (holds : Type 0) (size : ℕ) (u : Uberblock) (name : List ℕ) (tree : Tree) (slots : List Slot) (chain : List LogPiece) (pool : ReplayedPool) (next : NextPool) (is : IsPrepared holds size u name tree slots chain pool next) where
+module _ (holds : Type 0) (size : ℕ) (u : Uberblock) (name : List ℕ) (tree : Tree) (chain : List LogPiece) (pool : ReplayedPool) (next : NextPool) (is : IsPrepared holds size u name tree chain pool next) where
   abbrev plan : TreePlan
   plan = is.planned.plan
 
@@ -302,7 +288,7 @@ module _ (holds : Type 0) (size : ℕ) (u : Uberblock) (name : List ℕ) (tree :
 
   -- the contents that are synced are those that the records leave
   abbrev left : Contents
-  left = replays.after size u name tree slots chain pool is.named is.loaded is.replayed
+  left = replays.after size u name tree chain pool is.named is.loaded is.replayed
 
   -- each block was spare, and is taken once
   in_order : (i : ℕ) (b : PlannedBlock) → slice_get blocks i ≡ Some b → slice_get (rising spare) i ≡ Some (block_address b.index)
@@ -344,7 +330,7 @@ module _ (holds : Type 0) (size : ℕ) (u : Uberblock) (name : List ℕ) (tree :
       in_area = is.planned.fits.within;
       distinct = distinct_blocks blocks (λ i j b c at_i at_j same. one_place i j b c at_i at_j (ap block_address same));
     });
-    placed = ∥∥₁_map {A = ArePlaced (block_count size) (plan_pointers pool.tree plan)} {B = ArePlaced (block_count size) (pointers_of next.tree)} is.planned.made.1.placed
+    placed = ∥∥₁_map {A = ArePlaced (block_count size) (plan_pointers pool.synced.tree plan)} {B = ArePlaced (block_count size) (pointers_of next.contents.tree)} is.planned.made.1.placed
         (λ placed place in_range. subst (IsPlaced (block_count size)) (sym (is.planned.pointers place in_range)) (placed place in_range));
     log_placed = log_placed;
     sized = is.planned.sized;
@@ -354,25 +340,20 @@ module _ (holds : Type 0) (size : ℕ) (u : Uberblock) (name : List ℕ) (tree :
   contents_left : contents_of next.contents ≡ left
   contents_left = is.planned.contents_are
 
-  -- its contents and its tree are within the limits of a pool
+  -- its contents are within the limits of a pool
   pub prepared_within : AreWithinLimits (pool_parts next)
   prepared_within = record {
-    named = subst (λ (c : Contents). IsName c.name) (sym contents_left) (replays.bounded size u name tree slots chain pool is.named is.loaded is.replayed).name;
-    bounded = subst (λ (c : Contents). (n : ℕ) → IfSome (finite.get c.objects n) (IsLimitedObject n)) (sym contents_left) (replays.bounded size u name tree slots chain pool is.named is.loaded is.replayed).objects;
-    lengths = λ n below.
-        is.planned.lengths n below
-        ∙ lengths_told (u.group + 4) pool.replayed.records.items pool.tree.entries.items (contents_of pool.synced) left (replays.takes_place size u name tree slots chain pool is.named is.loaded is.replayed)
-        (lengths_after plan.entries pool.tree) is.planned.made.1.lengths n below
-        ∙ ap (λ (c : Contents). length_of c n) (sym contents_left);
+    named = subst (λ (c : Contents). IsName c.name) (sym contents_left) (replays.bounded size u name tree chain pool is.named is.loaded is.replayed).name;
+    bounded = subst (λ (c : Contents). (n : ℕ) → IfSome (finite.get c.objects n) (IsLimitedObject n)) (sym contents_left) (replays.bounded size u name tree chain pool is.named is.loaded is.replayed).objects;
   }
 
   -- so many records were replayed
   records_counted : next.records ≡ length (records_above u.group chain)
-  records_counted = is.planned.records_are ∙ replays.count size u name tree slots chain pool is.named is.loaded is.replayed
+  records_counted = is.planned.records_are ∙ replays.count size u name tree chain pool is.named is.loaded is.replayed
 
-  module _ (image : List ℕ) (read : IsReadPool image size u name tree slots chain) (held : holds) where
-    mine : IsReadPool image size u name pool.tree pool.synced.slots.items chain
-    mine = mine_read size u name tree slots chain pool is.named is.loaded is.replayed image read
+  module _ (image : List ℕ) (read : IsReadPool image size u name tree chain) (held : holds) where
+    mine : IsReadPool image size u name pool.synced.tree chain
+    mine = mine_read size u name tree chain pool is.named is.loaded is.replayed image read
 
     newest : u.version ≤ written_version
     newest = newest-known u.version read.pool.active.stands.version_known
@@ -383,16 +364,16 @@ module _ (holds : Type 0) (size : ℕ) (u : Uberblock) (name : List ℕ) (tree :
         let long : length image ≡ size = read.long in
         omega (arith, large, long)
 
-    planned : IsTreePlan (map new_block blocks) (next_frame u size) (pointers_of pool.tree) (plan_pointers pool.tree plan) (contents_of pool.synced).objects left.objects
-    planned = plans_make_trees (next_frame u size) (frame_of_size u size) pool.tree pool.replayed.records.items (contents_of pool.synced) left plan (is.planned.objects held)
-        (replays.takes_place size u name tree slots chain pool is.named is.loaded is.replayed) (replays.sized size u name tree slots chain pool is.named is.loaded is.replayed) image mine.held
+    planned : IsTreePlan (map new_block blocks) (next_frame u size) (pointers_of pool.synced.tree) (plan_pointers pool.synced.tree plan) (contents_of pool.synced).objects left.objects
+    planned = plans_make_trees (next_frame u size) (frame_of_size u size) pool.synced.tree pool.replayed.records.items (contents_of pool.synced) left plan (is.planned.objects held)
+        (replays.takes_place size u name tree chain pool is.named is.loaded is.replayed) (replays.sized size u name tree chain pool is.named is.loaded is.replayed) image mine.held
 
     -- the plan is one from the pointers of the tree
-    from_tree : MakesGroupTree (next_frame u size) (pointers_of pool.tree) pool.tree pool.replayed.records.items (objects_replayed pool) plan
+    from_tree : MakesGroupTree (next_frame u size) (pointers_of pool.synced.tree) pool.synced.tree pool.replayed.records.items (objects_replayed pool) plan
     from_tree = (is.planned.objects held).made
 
     -- each of its blocks is used
-    blocks_used : AreUsed (map new_block blocks) (plan_pointers pool.tree plan)
+    blocks_used : AreUsed (map new_block blocks) (plan_pointers pool.synced.tree plan)
     blocks_used = from_tree.places.used
 
     -- its blocks lie at the lowest spare addresses
@@ -402,27 +383,27 @@ module _ (holds : Type 0) (size : ℕ) (u : Uberblock) (name : List ℕ) (tree :
       each = λ address. (
         (λ free. (
           subst (λ (n : ℕ). IsBlockAddress (block_count n) address) (sym read.long) (is.replayed.spare.in_area address free),
-          spare-unused size u name tree slots chain pool is.named is.loaded is.replayed image read address free,
+          spare-unused size u name tree chain pool is.named is.loaded is.replayed image read address free,
         )),
         λ is_spare. ⊎_elim (λ free. free) (λ used. absurd (is_spare.1 used))
-            (spare-or_used size u name tree slots chain pool is.named is.loaded is.replayed image read address (subst (λ (n : ℕ). IsBlockAddress (block_count n) address) read.long is_spare.0)),
+            (spare-or_used size u name tree chain pool is.named is.loaded is.replayed image read address (subst (λ (n : ℕ). IsBlockAddress (block_count n) address) read.long is_spare.0)),
       );
       lowest = is.planned.taken ∙ ap (λ (n : ℕ). take n (rising spare)) (sym (length-map blocks address_of));
     }
 
     -- at the places that the records write
-    prepared_each : AreForEachPlace image u chain (pointers_of next.tree) (map address_of blocks)
+    prepared_each : AreForEachPlace image u chain (pointers_of next.contents.tree) (map address_of blocks)
     prepared_each = record {
       synced = contents_of pool.synced;
-      found = found_read image size u name pool.tree pool.synced.slots.items chain mine pool.synced is.replayed.name_is refl;
+      found = found_read image size u name pool.synced.tree chain mine pool.synced is.replayed.name_is refl;
       each =
-          map_same (λ (place : Place). (pointers_of next.tree place).address) (λ (place : Place). (plan_pointers pool.tree plan place).address) places
+          map_same (λ (place : Place). (pointers_of next.contents.tree place).address) (λ (place : Place). (plan_pointers pool.synced.tree plan place).address) places
           (λ i place at. ap (λ (q : Pointer). q.address) (is.planned.pointers place (each_place (group_changes (ops_of_placed (records_above u.group chain)) (contents_of pool.synced) (has_block image u.root)) i place at)))
-          ∙ ap (λ (ops : List Op). map (λ (place : Place). (plan_pointers pool.tree plan place).address) (written_places ops (contents_of pool.synced) (has_block image u.root)))
-          (replays.ops_replayed size u name tree slots chain pool is.named is.loaded is.replayed)
-          ∙ takes_at_places (u.group + 4) pool.replayed.records.items pool.tree.entries.items (contents_of pool.synced) left (replays.takes_place size u name tree slots chain pool is.named is.loaded is.replayed) (replays.sized size u name tree slots chain pool is.named is.loaded is.replayed) (pointers_of pool.tree)
-          (plan_pointers pool.tree plan) (map new_block blocks) plan.freed.items from_tree.places (has_block image u.root)
-          (had_block size u name tree slots chain pool is.named is.loaded is.replayed image read)
+          ∙ ap (λ (ops : List Op). map (λ (place : Place). (plan_pointers pool.synced.tree plan place).address) (written_places ops (contents_of pool.synced) (has_block image u.root)))
+          (replays.ops_replayed size u name tree chain pool is.named is.loaded is.replayed)
+          ∙ takes_at_places (u.group + 4) pool.replayed.records.items pool.synced.tree.entries.items (contents_of pool.synced) left (replays.takes_place size u name tree chain pool is.named is.loaded is.replayed) (replays.sized size u name tree chain pool is.named is.loaded is.replayed) (pointers_of pool.synced.tree)
+          (plan_pointers pool.synced.tree plan) (map new_block blocks) plan.freed.items from_tree.places (has_block image u.root)
+          (had_block size u name tree chain pool is.named is.loaded is.replayed image read)
           ∙ addresses_are blocks;
     }
       where
@@ -430,32 +411,32 @@ module _ (holds : Type 0) (size : ℕ) (u : Uberblock) (name : List ℕ) (tree :
         places = replayed_places image u chain (contents_of pool.synced)
 
     all_unused : (i : ℕ) (b : PlannedBlock) → slice_get blocks i ≡ Some b → IsUsed image u.root chain (block_address b.index) → ⊥
-    all_unused i b at = spare-unused size u name tree slots chain pool is.named is.loaded is.replayed image read (block_address b.index) (was_spare i b at)
+    all_unused i b at = spare-unused size u name tree chain pool is.named is.loaded is.replayed image read (block_address b.index) (was_spare i b at)
 
-    planned_contents : IsTreePlan (map new_block blocks) (next_frame u size) (pointers_of pool.tree) (plan_pointers pool.tree plan) (contents_of pool.synced).objects (contents_of next.contents).objects
+    planned_contents : IsTreePlan (map new_block blocks) (next_frame u size) (pointers_of pool.synced.tree) (plan_pointers pool.synced.tree plan) (contents_of pool.synced).objects (contents_of next.contents).objects
     planned_contents =
-        subst (λ (c : Contents). IsTreePlan (map new_block blocks) (next_frame u size) (pointers_of pool.tree) (plan_pointers pool.tree plan) (contents_of pool.synced).objects c.objects) (sym contents_left) planned
+        subst (λ (c : Contents). IsTreePlan (map new_block blocks) (next_frame u size) (pointers_of pool.synced.tree) (plan_pointers pool.synced.tree plan) (contents_of pool.synced).objects c.objects) (sym contents_left) planned
 
     no_others : (n : ℕ) → object_count ≤ n → finite.get (contents_of next.contents).objects n ≡ None
     no_others = subst (λ (c : Contents). (n : ℕ) → object_count ≤ n → finite.get c.objects n ≡ None) (sym contents_left)
-        (bounded-no_others left (replays.bounded size u name tree slots chain pool is.named is.loaded is.replayed))
+        (bounded-no_others left (replays.bounded size u name tree chain pool is.named is.loaded is.replayed))
 
     -- each block of the old tree was born before the group
-    born : AreBornBefore (u.group + 4) (pointers_of pool.tree)
-    born place in_range = elim (none_or_opens image (frame_of_size u size) (pointers_of pool.tree) (objects_of pool.synced.slots.items) mine.held place in_range) as (λ _. (pointers_of pool.tree place).birth < u.group + 4) [
-      | inl none ↦ (let zero_is : (pointers_of pool.tree place).birth ≡ 0 = ap (λ (q : Pointer). q.birth) none in omega (arith, zero_is))
+    born : AreBornBefore (u.group + 4) (pointers_of pool.synced.tree)
+    born place in_range = elim (none_or_opens image (frame_of_size u size) (pointers_of pool.synced.tree) (objects_of pool.synced.tree) mine.held place in_range) as (λ _. (pointers_of pool.synced.tree place).birth < u.group + 4) [
+      | inl none ↦ (let zero_is : (pointers_of pool.synced.tree place).birth ≡ 0 = ap (λ (q : Pointer). q.birth) none in omega (arith, zero_is))
       | inr o ↦ (let before = o.1.born in omega (arith, before))
     ]
 
     -- what comes back is what the plan replaces
-    replaced : AreFreed (pointers_of pool.tree) (plan_pointers pool.tree plan) plan.freed.items
+    replaced : AreFreed (pointers_of pool.synced.tree) (plan_pointers pool.synced.tree plan) plan.freed.items
     replaced = from_tree.places.freed born
 
     -- just the blocks are free that neither the new tree nor the log has
-    free_left : AreAllOthers (pointers_of next.tree) (block_count size) next.log_address next.free.free
-    free_left = subst (λ (a : ℕ). AreAllOthers (pointers_of next.tree) (block_count size) a next.free.free) (sym is.planned.log_is)
-        (all_others_left pool.tree (block_count size) pool.free next.free plan is.planned.log_block is.replayed.free is.planned.free is.planned.fits.freed (pointers_of next.tree)
-        (pointers_made image size u chain blocks are_blocks all_unused (pointers_of pool.tree) (contents_of pool.synced).objects mine.root mine.held newest (pool_parts next) (plan_pointers pool.tree plan) is.planned.pointers planned_contents
+    free_left : AreAllOthers (pointers_of next.contents.tree) (block_count size) next.log_address next.free.free
+    free_left = subst (λ (a : ℕ). AreAllOthers (pointers_of next.contents.tree) (block_count size) a next.free.free) (sym is.planned.log_is)
+        (all_others_left pool.synced.tree (block_count size) pool.free next.free plan is.planned.log_block is.replayed.free is.planned.free is.planned.fits.freed (pointers_of next.contents.tree)
+        (pointers_made image size u chain blocks are_blocks all_unused (pointers_of pool.synced.tree) (contents_of pool.synced).objects mine.root mine.held newest (pool_parts next) (plan_pointers pool.synced.tree plan) is.planned.pointers planned_contents
         no_others blocks_used room plan.freed.items replaced))
 
     -- so its parts are those of a pool
@@ -467,14 +448,14 @@ module _ (holds : Type 0) (size : ℕ) (u : Uberblock) (name : List ℕ) (tree :
     prepared_over =
         subst (λ (bs : List PlannedBlock). AreMadeOver image u chain size bs (pool_parts next)) (sym is.planned.blocks_are)
         (planned_over image size u chain blocks are_blocks all_unused
-        (pointers_of pool.tree) (contents_of pool.synced).objects mine.root mine.held newest (pool_parts next) (plan_pointers pool.tree plan) is.planned.pointers planned_contents no_others
+        (pointers_of pool.synced.tree) (contents_of pool.synced).objects mine.root mine.held newest (pool_parts next) (plan_pointers pool.synced.tree plan) is.planned.pointers planned_contents no_others
         blocks_used room few prepared_lowest prepared_each records_counted (not_zero (block_count size) next.log_address log_placed)
-        (spare-unused size u name tree slots chain pool is.named is.loaded is.replayed image read next.log_address log_spare) log_left lowest)
+        (spare-unused size u name tree chain pool is.named is.loaded is.replayed image read next.log_address log_spare) log_left lowest)
       where
         few : length blocks ≤ placed_estimate (records_above u.group chain)
         few =
-            let fits = plans_fit_estimates (next_frame u size) pool.tree pool.replayed.records.items (contents_of pool.synced) left plan is.planned.made (replays.takes_place size u name tree slots chain pool is.named is.loaded is.replayed) (replays.sized size u name tree slots chain pool is.named is.loaded is.replayed) in
-            let same = replays.estimate size u name tree slots chain pool is.named is.loaded is.replayed in
+            let fits = plans_fit_estimates (next_frame u size) pool.synced.tree pool.replayed.records.items (contents_of pool.synced) left plan is.planned.made (replays.takes_place size u name tree chain pool is.named is.loaded is.replayed) (replays.sized size u name tree chain pool is.named is.loaded is.replayed) in
+            let same = replays.estimate size u name tree chain pool is.named is.loaded is.replayed in
             omega (arith, fits, same)
 
         log_left : IsNewAddress (map new_block blocks) next.log_address → ⊥
@@ -489,11 +470,11 @@ module _ (holds : Type 0) (size : ℕ) (u : Uberblock) (name : List ℕ) (tree :
             let before : k < is.planned.log_block = (let log : next.log_address ≡ block_address is.planned.log_block = is.planned.log_is in omega (arith, below, at, log)) in
             let p = planned_at k blocks (is.planned.lowest.below k before (ap (λ (a : ℕ). set.contains spare a) (sym at) ∙ spare_there)) in
             inr (p.0, p.1, p.2, p.3 ∙ sym at))
-            (λ used. inl used) (spare-or_used size u name tree slots chain pool is.named is.loaded is.replayed image read address (k, low, at))
+            (λ used. inl used) (spare-or_used size u name tree chain pool is.named is.loaded is.replayed image read address (k, low, at))
 
     -- and the image mounts its contents
     pub prepared_mounts : Mounts image u chain (contents_of next.contents)
-    prepared_mounts = subst (λ (c : Contents). Mounts image u chain c) (sym contents_left) (replay_mounts size u name tree slots chain pool is.named is.loaded is.replayed image read)
+    prepared_mounts = subst (λ (c : Contents). Mounts image u chain c) (sym contents_left) (replay_mounts size u name tree chain pool is.named is.loaded is.replayed image read)
 
     -- what was mounted is an import of the image
     pub is_import : (dirty_max moment : ℕ) (m : Mounted) → IsMountedFrom size u (pool_parts next) dirty_max m → is_dirty_max_allowed dirty_max ≡ true
@@ -503,8 +484,8 @@ module _ (holds : Type 0) (size : ℕ) (u : Uberblock) (name : List ℕ) (tree :
           (subst (λ (p : PoolParts). Mounts image u chain (contents_of p.contents)) (sym from.parts) prepared_mounts);
       stands = stands_on size u (pool_parts next) dirty_max m from prepared_within prepared_parts image now chain next.blocks.items read.long prepared_over long written;
       size = long;
-      no_log = no_log_written size u name pool.tree (objects_of pool.synced.slots.items) chain image now next.blocks.items is.loaded.sound mine prepared_over.unused prepared_ready.apart long written;
-      kept = used_kept size u name pool.tree (objects_of pool.synced.slots.items) chain image now next.blocks.items is.loaded.sound mine prepared_over.unused prepared_ready.apart long written;
+      no_log = no_log_written size u name pool.synced.tree (objects_of pool.synced.tree) chain image now next.blocks.items is.loaded.sound mine prepared_over.unused prepared_ready.apart long written;
+      kept = used_kept size u name pool.synced.tree (objects_of pool.synced.tree) chain image now next.blocks.items is.loaded.sound mine prepared_over.unused prepared_ready.apart long written;
     }
       where
         now : List ℕ

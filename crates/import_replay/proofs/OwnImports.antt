@@ -242,7 +242,7 @@ module _ (old mid : Disk) (flushes : Flushes old (Ok tt) mid) where
           view_same : view_of w tree ≡ mine
           view_same = λ i. view_of (written_same size u next dirty_max moment m from i) (tree_of ((sym from.parts) i))
 
-          view_is : (created : ℕ) → IsViewOf 0 mine shown (past_of created) m.group.0 m.tree.root (header_now shown.log)
+          view_is : (created : ℕ) → IsViewOf 0 mine shown (past_of created) m.group.0 m.contents.tree.root (header_now shown.log)
           view_is created = record {
             guid = refl;
             group_is = refl;

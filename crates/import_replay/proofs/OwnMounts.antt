@@ -9,7 +9,6 @@ use Rattle.base.specs.formats.Chain.{LogPiece}
 use Rattle.base.specs.formats.Uberblocks.{Uberblock}
 use Rattle.labels.specs.declared.stage.Stage.{Stage}
 use Rattle.contents.specs.ContentsShown.{contents_of}
-use Rattle.contents.specs.declared.contents.Slot.{Slot}
 use Rattle.tree_blocks.specs.declared.tree.Tree.{Tree}
 use Rattle.import_replay.specs.Found.{HasFirstStage}
 use Rattle.import_replay.specs.ImportStops.{writes_of_next}
@@ -26,9 +25,9 @@ use Rattle.import_replay.proofs.NextPools.{IsPrepared, prepared_mounts, prepared
 use Rattle.import_replay.proofs.OwnImports.{kept_own, starts_run}
 
 -- the sync of the pool began on the disk that was read
-module _ (holds : Type 0) (size : ℕ) (u : Uberblock) (name : List ℕ) (first : Stage) (tree : Tree) (slots : List Slot) (chain : List LogPiece) (pool : ReplayedPool) (next : NextPool)
-    (is : IsPrepared holds size u name tree slots chain pool next) (held : holds) (moment : ℕ) (old mid start new : Disk) (flushes : Flushes old (Ok tt) mid)
-    (read : IsReadPool (bytes_of mid.now) size u name tree slots chain) (stage : HasFirstStage (bytes_of mid.now) u.guid u.group name (is_even first))
+module _ (holds : Type 0) (size : ℕ) (u : Uberblock) (name : List ℕ) (first : Stage) (tree : Tree) (chain : List LogPiece) (pool : ReplayedPool) (next : NextPool)
+    (is : IsPrepared holds size u name tree chain pool next) (held : holds) (moment : ℕ) (old mid start new : Disk) (flushes : Flushes old (Ok tt) mid)
+    (read : IsReadPool (bytes_of mid.now) size u name tree chain) (stage : HasFirstStage (bytes_of mid.now) u.guid u.group name (is_even first))
     (same : start ≡ mid) (views : KeepsViews (writes_of_next size u moment next) first start new) where
   abbrev w : ImportWrites
   w = writes_of_next size u moment next
@@ -37,13 +36,13 @@ module _ (holds : Type 0) (size : ℕ) (u : Uberblock) (name : List ℕ) (first 
   image = bytes_of mid.now
 
   parts : ArePartsFor size (pool_parts next)
-  parts = prepared_parts holds size u name tree slots chain pool next is image read held
+  parts = prepared_parts holds size u name tree chain pool next is image read held
 
   over : AreMadeOver image u chain size next.blocks.items (pool_parts next)
-  over = prepared_over holds size u name tree slots chain pool next is image read held
+  over = prepared_over holds size u name tree chain pool next is image read held
 
   mounts : Mounts image u chain (contents_of next.contents)
-  mounts = prepared_mounts holds size u name tree slots chain pool next is image read held
+  mounts = prepared_mounts holds size u name tree chain pool next is image read held
 
   kept : KeepsViews w first mid new
   kept = subst (λ (d : Disk). KeepsViews w first d new) same views

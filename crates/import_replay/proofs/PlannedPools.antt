@@ -54,7 +54,7 @@ of_tree (Data n r) = (λ same. omega (arith, same), λ same. omega (arith, same)
 module _ (image : List ℕ) (size : ℕ) (u : Uberblock) (chain : List LogPiece) (blocks : List PlannedBlock) (are : AreBlocks (block_count size) (map new_block blocks))
     (free : (i : ℕ) (b : PlannedBlock) → slice_get blocks i ≡ Some b → IsUsed image u.root chain (block_address b.index) → ⊥)
     (old : Place → Pointer) (before : FinMap nat_cmp (List ℕ)) (root : old Root ≡ u.root) (held : HoldsTree image (frame_of_size u size) old before) (newer : u.version ≤ written_version)
-    (p : PoolParts) (new : Place → Pointer) (same : (place : Place) → IsPlace place → pointers_of p.tree place ≡ new place)
+    (p : PoolParts) (new : Place → Pointer) (same : (place : Place) → IsPlace place → pointers_of p.contents.tree place ≡ new place)
     (planned : IsTreePlan (map new_block blocks) (next_frame u size) old new before (contents_of p.contents).objects)
     (no_others : (n : ℕ) → object_count ≤ n → finite.get (contents_of p.contents).objects n ≡ None) where
   abbrev after : FinMap nat_cmp (List ℕ)
@@ -103,7 +103,7 @@ module _ (image : List ℕ) (size : ℕ) (u : Uberblock) (chain : List LogPiece)
 
   planned_made : IsTreeMade image size blocks (next_frame u size) (tree_of p)
   planned_made other long written =
-      holds_as other (next_frame u size) new (pointers_of p.tree) same after
+      holds_as other (next_frame u size) new (pointers_of p.contents.tree) same after
       (planned-holds image other (frame_of_size u size) (next_frame u size) refl refl (omega arith) newer (map new_block blocks) (stands other long written) old new before after held planned
       (λ place in_range same. stays other long written place in_range) no_others)
 
@@ -119,29 +119,29 @@ module _ (image : List ℕ) (size : ℕ) (u : Uberblock) (chain : List LogPiece)
     news = planned-written image (frame_of_size u size) (next_frame u size) bs old new before after refl refl (omega arith) newer held planned no_others are leaves room
 
     -- the pool's pointers name just the blocks that this image has in the new tree
-    in_other : (address : ℕ) → address ≢ 0 → IsNamed (pointers_of p.tree) address → IsInTree other (new Root) address
+    in_other : (address : ℕ) → address ≢ 0 → IsNamed (pointers_of p.contents.tree) address → IsInTree other (new Root) address
     in_other address some (place, in_range, at) =
         let named : (new place).address ≡ address = ap (λ (q : Pointer). q.address) (sym (same place in_range)) ∙ at in
         subst (λ (a : ℕ). IsInTree other (new Root) a) named
         (told-in_tree other (next_frame u size) new after news place in_range (λ none. some (sym named ∙ ap (λ (q : Pointer). q.address) none)))
 
-    of_other : (address : ℕ) → IsInTree other (new Root) address → IsNamed (pointers_of p.tree) address
+    of_other : (address : ℕ) → IsInTree other (new Root) address → IsNamed (pointers_of p.contents.tree) address
     of_other address is =
         let (place, in_range, at, some) = in-tree other (next_frame u size) new after news address is in
         (place, in_range, ap (λ (q : Pointer). q.address) (same place in_range) ∙ at)
 
     -- a block of the new tree is one of the old tree or of the plan
-    named_from : (address : ℕ) → address ≢ 0 → IsNamed (pointers_of p.tree) address → IsInTree image (old Root) address ⊎ IsNewAddress bs address
+    named_from : (address : ℕ) → address ≢ 0 → IsNamed (pointers_of p.contents.tree) address → IsInTree image (old Root) address ⊎ IsNewAddress bs address
     named_from address some named = in-new_tree image other (frame_of_size u size) (next_frame u size) bs old new before after held news planned leaves address (in_other address some named)
 
     -- and each block of the plan is one of the new tree
-    new_named : (i : ℕ) (b : PlannedBlock) → slice_get blocks i ≡ Some b → IsNamed (pointers_of p.tree) (block_address b.index)
+    new_named : (i : ℕ) (b : PlannedBlock) → slice_get blocks i ≡ Some b → IsNamed (pointers_of p.contents.tree) (block_address b.index)
     new_named i b at =
         let (place, in_range, named) = used i (new_block b) (map-at new_block blocks i b at) in
         (place, in_range, ap (λ (q : Pointer). q.address) (same place in_range) ∙ named)
 
     -- so the new pointers come from the old ones, where just the blocks come back that the plan replaces
-    pub pointers_made : (freed : List ℕ) → AreFreed old new freed → AreMadeOf (block_count size) old blocks freed (pointers_of p.tree)
+    pub pointers_made : (freed : List ℕ) → AreFreed old new freed → AreMadeOf (block_count size) old blocks freed (pointers_of p.contents.tree)
     pointers_made freed are_freed = record {
       named_from = λ address at named. ⊎_elim (λ is. inl (named-of_tree image (frame_of_size u size) old before held address is)) (λ there. inr (planned_at_address address there))
           (named_from address (not_zero (block_count size) address at) named);
@@ -169,7 +169,7 @@ module _ (image : List ℕ) (size : ℕ) (u : Uberblock) (chain : List LogPiece)
         (place, ap (λ (l : List ℕ). number_at l 0) (sym stands_there) ∙ ap (λ (a : ℕ). number_at (part other a block_size) 0) (sym named) ∙ o.1.block.kind_is)
 
     -- So the pool is made over the image, with the first log block that is neither used nor one of the plan.
-    pub planned_over : (length blocks ≤ placed_estimate (records_above u.group chain)) → AreLowestSpare image u chain (map address_of blocks) → AreForEachPlace image u chain (pointers_of p.tree) (map address_of blocks)
+    pub planned_over : (length blocks ≤ placed_estimate (records_above u.group chain)) → AreLowestSpare image u chain (map address_of blocks) → AreForEachPlace image u chain (pointers_of p.contents.tree) (map address_of blocks)
         → p.records ≡ length (records_above u.group chain) → p.log_address ≢ 0 → (IsUsed image u.root chain p.log_address → ⊥) → (IsNewAddress bs p.log_address → ⊥)
         → ((address : ℕ) → address < p.log_address → IsBlockAddress (block_count size) address → IsUsed image u.root chain address ⊎ ((i : ℕ) × (b : PlannedBlock) × (slice_get blocks i ≡ Some b) × (block_address b.index ≡ address)))
         → AreMadeOver image u chain size blocks p
@@ -188,5 +188,5 @@ module _ (image : List ℕ) (size : ℕ) (u : Uberblock) (chain : List LogPiece)
       records = records;
       log_unused = log_unused;
       log_unnamed = λ named. ⊎_elim (λ old_tree. log_unused (inl (subst (λ (r : Pointer). IsInTree image r p.log_address) root old_tree))) log_left (named_from p.log_address some named);
-      log_lowest = λ address below is. ⊎_elim (λ is_used. inl is_used) (λ planned. inr (subst (λ (a : ℕ). IsNamed (pointers_of p.tree) a) planned.3 (new_named planned.0 planned.1 planned.2))) (log_lowest address below is);
+      log_lowest = λ address below is. ⊎_elim (λ is_used. inl is_used) (λ planned. inr (subst (λ (a : ℕ). IsNamed (pointers_of p.contents.tree) a) planned.3 (new_named planned.0 planned.1 planned.2))) (log_lowest address below is);
     }

@@ -16,7 +16,6 @@ use Rattle.base.specs.tree.Damages.{IsFirstDamage}
 use Rattle.base.specs.kept.PlacedTrees.{HoldsTree}
 use Rattle.base.proofs.disk.Regions.{flushed_clean}
 use Rattle.intent_log.specs.Chains.{IsSoundPiece}
-use Rattle.contents.specs.declared.contents.Slot.{Slot}
 use Rattle.tree_blocks.specs.declared.tree.Tree.{Tree}
 use Rattle.tree_blocks.specs.Pointers.{pointers_of}
 use Rattle.import_replay.specs.ReadPools.{HoldsPool, IsReadPool, frame_of_size}
@@ -55,9 +54,9 @@ is_read_chain image size frame u chain long framed is =
 pub same_flushed : (old mid : Disk) → Flushes old (Ok tt) mid → bytes_of mid.now ≡ bytes_of old.now
 same_flushed old mid flushes = (flushed_clean old mid flushes).1
 
-pub read_behind_flush : (old mid : Disk) (size : ℕ) (u : Uberblock) (name : List ℕ) (tree : Tree) (slots : List Slot) (chain : List LogPiece) → Flushes old (Ok tt) mid
-    → IsReadPool (bytes_of mid.now) size u name tree slots chain → IsReadPool (bytes_of old.now) size u name tree slots chain
-read_behind_flush old mid size u name tree slots chain flushes read = subst (λ (b : List ℕ). IsReadPool b size u name tree slots chain) (same_flushed old mid flushes) read
+pub read_behind_flush : (old mid : Disk) (size : ℕ) (u : Uberblock) (name : List ℕ) (tree : Tree) (chain : List LogPiece) → Flushes old (Ok tt) mid
+    → IsReadPool (bytes_of mid.now) size u name tree chain → IsReadPool (bytes_of old.now) size u name tree chain
+read_behind_flush old mid size u name tree chain flushes read = subst (λ (b : List ℕ). IsReadPool b size u name tree chain) (same_flushed old mid flushes) read
 
 -- the blocks of a chain that was read lie in the area
 pub sound_in_area : (blocks : ℕ) (chain : List LogPiece) → All (IsSoundPiece blocks) chain → (address : ℕ) → Contains (chain_addresses chain) address → IsBlockAddress blocks address

@@ -1,6 +1,6 @@
 -- The records of a chain, as the operations of the group that an import syncs: they take place on the tree that was
 -- loaded, keep within the limits, and are estimated at what the records are.
-use Rattle.std.proofs.Common.{◌≡◌, ℕ, ◌+◌, ◌<◌, ◌≤◌, List, [], ◌∷◌, ◌++◌, length, map, Ok, refl, ap, sym, subst, ◌∙◌}
+use Rattle.std.proofs.Common.{◌≡◌, ℕ, ◌+◌, List, [], ◌∷◌, ◌++◌, length, map, Ok, refl, ap, sym, subst, ◌∙◌}
 use Rattle.std.specs.Prelude.{All, sum_by}
 use Rattle.std.specs.FinMap as finite
 use Rattle.std.specs.List.{flat_map}
@@ -18,6 +18,7 @@ use Rattle.base.specs.history.History.{Entry, apply_all}
 use Rattle.base.specs.history.Plans.{estimate_of, shape_of}
 use Rattle.base.specs.steps.Exact.{IsBounded}
 use Rattle.extents.specs.Synced.{patched_contents}
+use Rattle.extents.specs.Patches.{ArePatchesOf}
 use Rattle.extents.specs.Tables.{name_of, patches_of}
 use Rattle.group_plans.specs.Operations.{AreSized, TakesPlace}
 use Rattle.group_plans.proofs.GroupChanges.{allowed_ops_take_place}
@@ -27,7 +28,6 @@ use Rattle.log_replay.specs.Replays.{IsPieceAllowed, IsChainAllowed, ops_of_reco
 use Rattle.log_replay.proofs.BoundedReplays.{replays_stay_bounded}
 use Rattle.contents.specs.ContentsShown.{contents_of}
 use Rattle.contents.specs.Ops.{AreOpsAllowed, IsOpAllowed}
-use Rattle.contents.specs.declared.contents.Slot.{Slot}
 use Rattle.tree_blocks.specs.declared.tree.Tree.{Tree}
 use Rattle.records.specs.declared.record.Record.{Record}
 use Rattle.records.specs.Records.{record_fields}
@@ -100,8 +100,8 @@ all_allowed [] all = All-nil IsOpAllowed
 all_allowed (x ∷ xs) all =
     All-append IsOpAllowed x.ops (ops_of_records xs) (All-head (λ (r : Record). AreOpsAllowed r.ops) x xs all) (all_allowed xs (All-tail (λ (r : Record). AreOpsAllowed r.ops) x xs all))
 
-module _ (size : ℕ) (u : Uberblock) (name : List ℕ) (tree : Tree) (slots : List Slot) (chain : List LogPiece) (pool : ReplayedPool) (named : IsName name) (loaded : IsLoadedFor u (block_count size) tree slots chain)
-    (r : IsReplayedPool size u.group name tree slots chain pool) where
+module _ (size : ℕ) (u : Uberblock) (name : List ℕ) (tree : Tree) (chain : List LogPiece) (pool : ReplayedPool) (named : IsName name) (loaded : IsLoadedFor u (block_count size) tree chain)
+    (r : IsReplayedPool size u.group name tree chain pool) where
   abbrev pub synced : Contents
   synced = contents_of pool.synced
 
@@ -117,15 +117,18 @@ module _ (size : ℕ) (u : Uberblock) (name : List ℕ) (tree : Tree) (slots : L
   abbrev pub group : ℕ
   group = u.group + 4
 
-  pub mine : IsLoadedFor u (block_count size) pool.tree pool.synced.slots.items chain
-  mine = subst (λ (t : Tree). IsLoadedFor u (block_count size) t pool.synced.slots.items chain) (sym r.tree_is)
-      (subst (λ (l : List Slot). IsLoadedFor u (block_count size) tree l chain) (sym r.slots_are) loaded)
+  pub mine : IsLoadedFor u (block_count size) pool.synced.tree chain
+  mine = subst (λ (t : Tree). IsLoadedFor u (block_count size) t chain) (sym r.tree_is) loaded
 
   all_in_group : All (λ (x : Record). x.group.0 ≡ group) records
   all_in_group = in_group group records placed r.replayed.records_are
 
   ops_are : pending_ops group records ≡ ops_of_records records
   ops_are = all_pending group records all_in_group
+
+  -- what they change is what the records of the group do
+  pub changes_are : ArePatchesOf (pending_ops group records) (patches_of pool.replayed.extents)
+  changes_are = subst (λ (ops : List Op). ArePatchesOf ops (patches_of pool.replayed.extents)) (sym ops_are) r.replayed.patches
 
   pub ops_replayed : ops_of_placed placed ≡ pending_ops group records
   ops_replayed = sym (entries-ops placed) ∙ same_ops group records placed r.replayed.records_are ∙ sym ops_are
@@ -143,8 +146,8 @@ module _ (size : ℕ) (u : Uberblock) (name : List ℕ) (tree : Tree) (slots : L
   pub sized : AreSized after.objects
   sized n = sized_object (finite.get after.objects n) n (bounded.objects n)
 
-  pub takes_place : TakesPlace (pending_ops group records) pool.tree.entries.items synced after
-  takes_place = allowed_ops_take_place (pending_ops group records) pool.tree.entries.items synced after (subst AreOpsAllowed (sym ops_are) (all_allowed records r.replayed.allowed)) leads mine.lengths
+  pub takes_place : TakesPlace (pending_ops group records) pool.synced.tree.entries.items synced after
+  takes_place = allowed_ops_take_place (pending_ops group records) pool.synced.tree.entries.items synced after (subst AreOpsAllowed (sym ops_are) (all_allowed records r.replayed.allowed)) leads (λ n low. pool.synced.tree.sized n)
 
   pub estimate : estimate_of (map shape_of (pending_ops group records)) ≡ placed_estimate placed
   estimate = estimates_add group records all_in_group ∙ same_estimate group records placed r.replayed.records_are

@@ -36,7 +36,7 @@ written_same size u next dirty_max moment m from = λ i. record {
     group = (sym from.group) i;
     guid = (sym from.guid) i;
     moment = moment;
-    root = ((sym from.parts) i).tree.root;
+    root = ((sym from.parts) i).contents.tree.root;
     import_number = (sym from.import_number) i;
     log_address = ((sym from.parts) i).log_address;
     log_number = 0;
@@ -69,7 +69,7 @@ module _ (size : ℕ) (old mid new : Disk) (u : Uberblock) (name : List ℕ) (ch
     unused = over.unused;
     few = over.few;
     lowest = over.lowest;
-    each = subst (λ (q : PoolParts). AreForEachPlace (bytes_of old.now) u chain (pointers_of q.tree) (map address_of next.blocks.items)) (sym from.parts) over.each;
+    each = subst (λ (q : PoolParts). AreForEachPlace (bytes_of old.now) u chain (pointers_of q.contents.tree) (map address_of next.blocks.items)) (sym from.parts) over.each;
     synced = mine.synced ∙ ap (λ (d : Disk). after_disk_calls (calls_of_import (writes_of_import moment next.blocks.items m) even_first) d) flushed;
     written = subst (λ (b : List ℕ). BlocksWritten b m.geometry next.blocks.items (length next.blocks.items) (bytes_of new.now)) (flushed_clean old mid flushed).1 mine.blocks_written;
   }

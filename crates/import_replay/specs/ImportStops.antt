@@ -35,7 +35,7 @@ next_writes size u name root moment log_address blocks = record { size = size; c
 
 -- and for a pool that it is about to sync
 abbrev pub writes_of_next : (size : ℕ) → Uberblock → (moment : ℕ) → NextPool → ImportWrites
-writes_of_next size u moment next = next_writes size u next.contents.name next.tree.root moment next.log_address next.blocks.items
+writes_of_next size u moment next = next_writes size u next.contents.name next.contents.tree.root moment next.log_address next.blocks.items
 
 -- The sync of an import stopped, after its first flush. The image has a pool, a sound tree, numbers that fit and room.
 -- What the calls write is of these, with blocks that make the tree of what the image mounts, and a first log block.
@@ -52,7 +52,7 @@ pub record IsStoppedInLabels (old new : Disk) (moment : ℕ) (e : PoolError) : T
   pub are : ArePartsFor (disk_size old) parts
   pub made : AreMadeOver (bytes_of old.now) u chain (disk_size old) blocks parts
   pub mounts : Mounts (bytes_of old.now) u chain (contents_of parts.contents)
-  pub stopped : IsStoppedIn (calls_of_import (next_writes (disk_size old) u parts.contents.name parts.tree.root moment parts.log_address blocks) even_first) e (certain (bytes_of old.now) old) new
+  pub stopped : IsStoppedIn (calls_of_import (next_writes (disk_size old) u parts.contents.name parts.contents.tree.root moment parts.log_address blocks) even_first) e (certain (bytes_of old.now) old) new
 
 -- the device refused a write or a flush of an import: its first flush, which left the disk as it was, or a call of its
 -- sync

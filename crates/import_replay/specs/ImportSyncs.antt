@@ -30,7 +30,7 @@ uberblock_of_import moment m = record {
   group = m.group.0;
   guid = m.guid;
   moment = moment;
-  root = m.tree.root;
+  root = m.contents.tree.root;
   import_number = m.import_number;
   log_address = m.log_address;
   log_number = 0;
@@ -61,7 +61,7 @@ pub record IsImportSynced (old new : Disk) (moment : ℕ) (m : Mounted) : Type 0
   pub unused : All (IsUnusedBlock (bytes_of old.now) u chain) blocks
   pub few : length blocks ≤ placed_estimate (records_above u.group chain)
   pub lowest : AreLowestSpare (bytes_of old.now) u chain (map address_of blocks)
-  pub each : AreForEachPlace (bytes_of old.now) u chain (pointers_of m.tree) (map address_of blocks)
+  pub each : AreForEachPlace (bytes_of old.now) u chain (pointers_of m.contents.tree) (map address_of blocks)
   pub synced : new ≡ after_disk_calls (calls_of_import (writes_of_import moment blocks m) even_first) (certain (bytes_of old.now) old)
   pub written : BlocksWritten (bytes_of old.now) m.geometry blocks (length blocks) (bytes_of new.now)
 

@@ -1,6 +1,5 @@
 -- What an import mounts, as contracts see the pool that it gives.
-use Rattle.std.specs.Prelude.{ℕ, ◌≡◌, ◌+◌, ◌<◌, ◌≤◌, false, List, [], length}
-use Rattle.std.specs.FinMap as finite
+use Rattle.std.specs.Prelude.{ℕ, ◌≡◌, ◌+◌, ◌<◌, ◌≤◌, false, List, length}
 use Rattle.base.specs.formats.Versions.{written_version}
 use Rattle.base.specs.formats.Blocks.{Frame}
 use Rattle.base.specs.formats.Chain.{LogPiece}
@@ -28,7 +27,7 @@ frame_of_import m = record { version = written_version; guid = m.guid; blocks = 
 
 -- the parts of what was mounted
 abbrev pub parts_mounted : Mounted → PoolParts
-parts_mounted m = record { tree = m.tree; contents = m.contents; free = m.free.free; log_address = m.log_address; records = m.records }
+parts_mounted m = record { contents = m.contents; free = m.free.free; log_address = m.log_address; records = m.records }
 
 -- what was mounted on a device of so many bytes has these parts, of this active uberblock
 pub record IsMountedFrom (size : ℕ) (u : Uberblock) (p : PoolParts) (dirty_max : ℕ) (m : Mounted) : Type 0 where
@@ -43,9 +42,9 @@ pub record IsMountedFrom (size : ℕ) (u : Uberblock) (p : PoolParts) (dirty_max
 -- What an import gives stands on a device with these bytes: the device holds its tree, its log block is a block of the
 -- area that the tree does not have, and the free blocks are all others.
 pub record StandsOnDevice (now : List ℕ) (m : Mounted) : Type 0 where
-  pub tree : HoldsTree now (frame_of_import m) (pointers_of m.tree) (contents_of m.contents).objects
+  pub tree : HoldsTree now (frame_of_import m) (pointers_of m.contents.tree) (contents_of m.contents).objects
   pub log_block : IsBlockAddress (block_count m.geometry) m.log_address
-  pub log_apart : IsInTree now m.tree.root m.log_address → ⊥
+  pub log_apart : IsInTree now m.contents.tree.root m.log_address → ⊥
   pub free : AreFree now (shown_of_import m)
 
 -- whenever its pool was created, a past in which nothing happened explains it

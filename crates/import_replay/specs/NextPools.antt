@@ -14,7 +14,6 @@ use Rattle.base.specs.formats.Blocks.{Frame}
 use Rattle.base.specs.formats.Chain.{LogPiece, chain_addresses}
 use Rattle.base.specs.formats.Fields.{number_at}
 use Rattle.base.specs.formats.Geometry.{IsBlockAddress, block_address, block_count}
-use Rattle.base.specs.formats.Limits.{object_count}
 use Rattle.base.specs.formats.Uberblocks.{Uberblock}
 use Rattle.base.specs.formats.Versions.{written_version}
 use Rattle.base.specs.history.Contents as history
@@ -25,16 +24,14 @@ use Rattle.device_model.specs.declared.device.SectorDevice.{Ghosts}
 use Rattle.extents.specs.Synced.{patched_contents}
 use Rattle.extents.specs.Tables.{name_of, patches_of}
 use Rattle.group_plans.specs.GroupPlans.{FitsIn, HoldsGroupObjects, IsHeldRefusal, IsPlanRefusal, IsShortOfBlocks, MakesReadTree, TakesLowest, objects_with, plan_pointers}
-use Rattle.group_plans.specs.OldMaps.{HoldsTreeOf}
-use Rattle.tree_blocks.specs.SyncedTrees.{lengths_after}
+use Rattle.group_plans.specs.OldMaps.{HoldsOwn}
 use Rattle.log_replay.specs.Replays.{IsReplay}
-use Rattle.contents.specs.ContentsShown.{contents_of, objects_of}
+use Rattle.contents.specs.ContentsShown.{contents_of}
 use Rattle.trees.specs.FreeBlocks.{AreUnnamed}
-use Rattle.tree_blocks.specs.Lengths.{HasLengthsOf, lengths_of}
+use Rattle.tree_blocks.specs.TreeObjects.{objects_of}
 use Rattle.trees.specs.Loading.{IsLimitedObject}
 use Rattle.tree_blocks.specs.Pointers.{pointers_of}
-use Rattle.contents.specs.declared.contents.Contents as declared
-use Rattle.contents.specs.declared.contents.Slot.{Slot}
+use Rattle.contents.specs.declared.synced_tree.SyncedTree.{SyncedTree}
 use Rattle.tree_blocks.specs.declared.tree.Tree.{Tree}
 use Rattle.space.specs.FreeSets.{IsIdle}
 use Rattle.tree_plans.specs.Plans.{address_of}
@@ -51,35 +48,33 @@ use Rattle.import_replay.specs.declared.next_pool.ReplayedPool.{ReplayedPool}
 
 -- the parts of a pool that an import syncs and mounts
 pub record PoolParts : Type 0 where
-  pub tree : Tree
-  pub contents : declared.Contents
+  pub contents : SyncedTree
   pub free : FinSet nat_cmp
   pub log_address : ℕ
   pub records : ℕ
 
 abbrev pub pool_parts : NextPool → PoolParts
-pool_parts next = record { tree = next.tree; contents = next.contents; free = next.free.free; log_address = next.log_address; records = next.records }
+pool_parts next = record { contents = next.contents; free = next.free.free; log_address = next.log_address; records = next.records }
 
 -- its tree as that of a view
 abbrev pub tree_of : PoolParts → ViewTree
-tree_of p = record { pointers = pointers_of p.tree; contents = contents_of p.contents }
+tree_of p = record { pointers = pointers_of p.contents.tree; contents = contents_of p.contents }
 
 -- the frame of an import of this active uberblock, on a device of so many bytes
 abbrev pub next_frame : Uberblock → ℕ → Frame
 next_frame u size = record { version = written_version; guid = u.guid; blocks = block_count size; group = u.group + 4 }
 
--- the pool has contents within the limits, and a tree that has their lengths
+-- the pool has contents within the limits
 pub record AreWithinLimits (p : PoolParts) : Type 0 where
   pub named : IsName p.contents.name
-  pub bounded : (n : ℕ) → IfSome (finite.get (objects_of p.contents.slots.items) n) (IsLimitedObject n)
-  pub lengths : HasLengthsOf p.tree (objects_of p.contents.slots.items)
+  pub bounded : (n : ℕ) → IfSome (finite.get (objects_of p.contents.tree) n) (IsLimitedObject n)
 
 -- On a device of so many bytes it has such contents and such a tree. The first log block lies in the area, and the free
 -- blocks are all others.
 pub record ArePartsFor (size : ℕ) (p : PoolParts) : Type 0 where
   pub within : AreWithinLimits p
   pub log_block : IsBlockAddress (block_count size) p.log_address
-  pub free : AreAllOthers (pointers_of p.tree) (block_count size) p.log_address p.free
+  pub free : AreAllOthers (pointers_of p.contents.tree) (block_count size) p.log_address p.free
 
 -- a block of a tree, at an address that neither the image's tree nor this chain has
 pub record IsUnusedBlock (image : List ℕ) (u : Uberblock) (chain : List LogPiece) (b : PlannedBlock) : Type 0 where
@@ -96,56 +91,54 @@ pub record AreMadeOver (image : List ℕ) (u : Uberblock) (chain : List LogPiece
   pub unused : All (IsUnusedBlock image u chain) blocks
   pub few : length blocks ≤ placed_estimate (records_above u.group chain)
   pub lowest : AreLowestSpare image u chain (map address_of blocks)
-  pub each : AreForEachPlace image u chain (pointers_of p.tree) (map address_of blocks)
+  pub each : AreForEachPlace image u chain (pointers_of p.contents.tree) (map address_of blocks)
   pub records : p.records ≡ length (records_above u.group chain)
   pub log_unused : IsUsed image u.root chain p.log_address → ⊥
-  pub log_unnamed : IsNamed (pointers_of p.tree) p.log_address → ⊥
-  pub log_lowest : (other : ℕ) → other < p.log_address → IsBlockAddress (block_count size) other → IsUsed image u.root chain other ⊎ IsNamed (pointers_of p.tree) other
+  pub log_unnamed : IsNamed (pointers_of p.contents.tree) p.log_address → ⊥
+  pub log_lowest : (other : ℕ) → other < p.log_address → IsBlockAddress (block_count size) other → IsUsed image u.root chain other ⊎ IsNamed (pointers_of p.contents.tree) other
 
--- the contents of this name and these slots
-abbrev pub synced_with : List ℕ → List Slot → history.Contents
-synced_with name slots = record { name = name; objects = objects_of slots }
+-- the contents of this name and this tree
+abbrev pub synced_with : List ℕ → Tree → history.Contents
+synced_with name tree = record { name = name; objects = objects_of tree }
 
--- The pool that was loaded, with this name, this tree, these slots and this chain: the records of the chain above the
+-- The pool that was loaded, with this name, this tree and this chain: the records of the chain above the
 -- group were replayed on its contents. The free blocks are those that no pointer of the tree names, and the spare ones
 -- are no block of the chain either.
-pub record IsReplayedPool (size group : ℕ) (name : List ℕ) (tree : Tree) (slots : List Slot) (chain : List LogPiece) (pool : ReplayedPool) : Type 0 where
-  pub tree_is : pool.tree ≡ tree
+pub record IsReplayedPool (size group : ℕ) (name : List ℕ) (tree : Tree) (chain : List LogPiece) (pool : ReplayedPool) : Type 0 where
+  pub tree_is : pool.synced.tree ≡ tree
   pub name_is : pool.synced.name ≡ name
-  pub slots_are : pool.synced.slots.items ≡ slots
-  pub free : AreUnnamed (block_count size) pool.tree pool.free
-  pub spare : AreUnused (pointers_of pool.tree) (chain_addresses chain) (block_count size) pool.spare.free
+  pub free : AreUnnamed (block_count size) pool.synced.tree pool.free
+  pub spare : AreUnused (pointers_of pool.synced.tree) (chain_addresses chain) (block_count size) pool.spare.free
   pub sized : pool.spare.blocks ≡ block_count size
   pub replayed : IsReplay group (contents_of pool.synced) chain pool.replayed
 
 -- the objects that the records leave
 abbrev pub objects_replayed : ReplayedPool → FinMap nat_cmp (List ℕ)
-objects_replayed pool = objects_with pool.replayed.extents pool.synced
+objects_replayed pool = objects_with pool.replayed.extents pool.synced.tree
 
--- the device keeps the model, and holds the tree that was loaded for this active uberblock, with the loaded objects,
--- whose lengths the tree in memory has
+-- the device keeps the model, and holds the tree that was loaded for this active uberblock, with its objects
 abbrev pub HoldsLoaded : {Dev : Type 0} (D : Ghosts Dev) (device : Dev) → ℕ → Uberblock → ReplayedPool → Type 0
-HoldsLoaded D device size u pool = IsTrue D.keeps_model × HoldsTreeOf (bytes_of (D.disk device).now) (frame_of_size u size) pool.tree (contents_of pool.synced).objects
+HoldsLoaded D device size u pool = IsTrue D.keeps_model × HoldsOwn (bytes_of (D.disk device).now) (frame_of_size u size) pool.synced.tree
 
 -- a plan makes of its tree that of these objects, as the tree of an import's group, whichever pointers to records were
 -- read
 abbrev pub MakesReadNext : ℕ → Uberblock → ReplayedPool → TreePlan → Type 0
-MakesReadNext size u pool plan = MakesReadTree (next_frame u size) pool.tree pool.replayed.records.items (objects_replayed pool) plan
+MakesReadNext size u pool plan = MakesReadTree (next_frame u size) pool.synced.tree pool.replayed.records.items (objects_replayed pool) plan
 
 -- and so from the pointers of the tree, with blocks that hold the objects
 abbrev pub HoldsNextObjects : ℕ → Uberblock → ReplayedPool → TreePlan → Type 0
-HoldsNextObjects size u pool plan = HoldsGroupObjects (next_frame u size) pool.tree pool.replayed.records.items (objects_replayed pool) plan
+HoldsNextObjects size u pool plan = HoldsGroupObjects (next_frame u size) pool.synced.tree pool.replayed.records.items (objects_replayed pool) plan
 
 -- the spare blocks are too few for that tree
 abbrev pub IsShortPlan : Uberblock → ReplayedPool → Type 0
-IsShortPlan u pool = (old : Place → Pointer) × IsShortOfBlocks (u.group + 4) pool.replayed.records.items pool.tree.entries.items old (objects_replayed pool) (rising pool.spare.free)
+IsShortPlan u pool = (old : Place → Pointer) × IsShortOfBlocks (u.group + 4) pool.replayed.records.items pool.synced.tree.entries.items old (objects_replayed pool) (rising pool.spare.free)
 
 abbrev pub TellsShortPlan : Uberblock → ReplayedPool → PoolError → Type 0
 TellsShortPlan u pool e = e ≡ NoSpace → IsShortPlan u pool
 
 -- and so of the pointers that the tree has
 abbrev pub IsShortTree : Uberblock → ReplayedPool → Type 0
-IsShortTree u pool = IsShortOfBlocks (u.group + 4) pool.replayed.records.items pool.tree.entries.items (pointers_of pool.tree) (objects_replayed pool) (rising pool.spare.free)
+IsShortTree u pool = IsShortOfBlocks (u.group + 4) pool.replayed.records.items pool.synced.tree.entries.items (pointers_of pool.synced.tree) (objects_replayed pool) (rising pool.spare.free)
 
 abbrev pub TellsShortTree : Uberblock → ReplayedPool → PoolError → Type 0
 TellsShortTree u pool e = e ≡ NoSpace → IsShortTree u pool
@@ -179,8 +172,7 @@ pub record IsPlannedPool (holds : Type 0) (size : ℕ) (u : Uberblock) (pool : R
   pub made : MakesReadNext size u pool plan
   pub objects : holds → HoldsNextObjects size u pool plan
   pub blocks_are : next.blocks.items ≡ plan.blocks.items
-  pub pointers : (place : Place) → IsPlace place → pointers_of next.tree place ≡ plan_pointers pool.tree plan place
-  pub lengths : (n : ℕ) → n < object_count → lengths_of next.tree n ≡ lengths_after plan.entries pool.tree n
+  pub pointers : (place : Place) → IsPlace place → pointers_of next.contents.tree place ≡ plan_pointers pool.synced.tree plan place
   pub contents_are : contents_of next.contents ≡ patched_contents (patches_of pool.replayed.extents) (name_of pool.replayed.extents) (contents_of pool.synced)
   pub log_block : ℕ
   pub log_is : next.log_address ≡ block_address log_block
@@ -194,7 +186,7 @@ pub record IsPlannedPool (holds : Type 0) (size : ℕ) (u : Uberblock) (pool : R
 -- and no block is reserved or taken
 pub record IsReadyFor (size : ℕ) (next : NextPool) : Type 0 where
   pub apart : AreApartIn size next.blocks.items
-  pub placed : ∥ ArePlaced (block_count size) (pointers_of next.tree) ∥₁
+  pub placed : ∥ ArePlaced (block_count size) (pointers_of next.contents.tree) ∥₁
   pub log_placed : IsBlockAddress (block_count size) next.log_address
   pub sized : next.free.blocks ≡ block_count size
   pub idle : IsIdle next.free

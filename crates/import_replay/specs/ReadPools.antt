@@ -10,11 +10,9 @@ use Rattle.base.specs.formats.Geometry.{block_count}
 use Rattle.base.specs.formats.Uberblocks.{Uberblock}
 use Rattle.base.specs.kept.PlacedTrees.{ArePlaced, HoldsTree}
 use Rattle.intent_log.specs.Chains.{IsSoundPiece}
-use Rattle.contents.specs.declared.contents.Slot.{Slot}
 use Rattle.tree_blocks.specs.declared.tree.Tree.{Tree}
-use Rattle.tree_blocks.specs.Lengths.{HasLengthsOf}
 use Rattle.trees.specs.Loading.{IsLimitedObject}
-use Rattle.contents.specs.ContentsShown.{objects_of}
+use Rattle.tree_blocks.specs.TreeObjects.{objects_of}
 use Rattle.tree_blocks.specs.Pointers.{pointers_of}
 
 -- the frame of an active uberblock, on a device of so many blocks
@@ -26,12 +24,11 @@ abbrev pub frame_of_size : Uberblock → ℕ → Frame
 frame_of_size u size = frame_with u (block_count size)
 
 -- What was loaded for this uberblock, on every device: its root, pointers to blocks of the area alone, objects within
--- their limits, whose lengths the tree has, and log blocks that lie in the area, of records within their limits.
-pub record IsLoadedFor (u : Uberblock) (blocks : ℕ) (tree : Tree) (slots : List Slot) (chain : List LogPiece) : Type 0 where
+-- their limits, and log blocks that lie in the area, of records within their limits.
+pub record IsLoadedFor (u : Uberblock) (blocks : ℕ) (tree : Tree) (chain : List LogPiece) : Type 0 where
   pub root : tree.root ≡ u.root
   pub placed : ArePlaced blocks (pointers_of tree)
-  pub bounded : (n : ℕ) → IfSome (finite.get (objects_of slots) n) (IsLimitedObject n)
-  pub lengths : HasLengthsOf tree (objects_of slots)
+  pub bounded : (n : ℕ) → IfSome (finite.get (objects_of tree) n) (IsLimitedObject n)
   pub sound : All (IsSoundPiece blocks) chain
 
 -- an image of so many bytes has an active pool, holds this tree of these objects under its root, and has the chain that
@@ -43,6 +40,6 @@ pub record HoldsPool (image : List ℕ) (size : ℕ) (u : Uberblock) (name : Lis
   pub root : tree.root ≡ u.root
   pub chain_is : IsChainOf image u chain
 
--- the tree of the objects of these slots
-abbrev pub IsReadPool : List ℕ → ℕ → Uberblock → List ℕ → Tree → List Slot → List LogPiece → Type 0
-IsReadPool image size u name tree slots chain = HoldsPool image size u name tree (objects_of slots) chain
+-- the tree of its own objects
+abbrev pub IsReadPool : List ℕ → ℕ → Uberblock → List ℕ → Tree → List LogPiece → Type 0
+IsReadPool image size u name tree chain = HoldsPool image size u name tree (objects_of tree) chain

@@ -1,6 +1,7 @@
 //! What an import returns: what it mounted, on its device.
 
 ghost use Rattle.std.specs.Prelude.{◌≡◌, ◌<◌, ◌≤◌, [], IsTrue};
+ghost use Rattle.std.specs.NonZero.{non_zero_usize_get};
 ghost use Rattle.base.specs.disk.Disk.{bytes_of};
 ghost use Rattle.base.specs.formats.Limits.{first_group, last_number};
 ghost use Rattle.import_replay.specs.Mounts.{IsExplainedAnew, StandsOnDevice};
@@ -11,6 +12,7 @@ use block_cache::BlockCache;
 use device_model::SectorDevice;
 use mounted::Mounted;
 use std::fmt;
+use std::num::NonZeroUsize;
 
 /// An imported pool, with the device that it lies on.
 #[derive(Drop)]
@@ -35,6 +37,25 @@ impl<D: SectorDevice> Imported<D> {
         ensures fits { (first_group ≤ result.0) × (result.0 < last_number) }
     {
         self.mounted.group
+    }
+
+    /// Returns the import with a cache of so many blocks, with none, in the place of its own. It takes no memory.
+    pub fn with_cache(self, count: NonZeroUsize) -> Self
+        ensures device { result.device ≡ self.device }
+        ensures mounted { result.mounted ≡ self.mounted }
+        ensures cache { result.cache.cap ≡ non_zero_usize_get count }
+    {
+        let Imported {
+            device,
+            cache,
+            mounted,
+        } = self;
+        let cache = BlockCache::new(cache.alloc(), count);
+        Imported {
+            device,
+            cache,
+            mounted,
+        }
     }
 
     /// Returns how many log records were replayed.

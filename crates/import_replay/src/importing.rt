@@ -254,7 +254,6 @@ fn open_pool<D: SectorDevice>(
 {
     let NextPool {
         blocks,
-        tree,
         contents,
         free,
         log_address,
@@ -265,7 +264,7 @@ fn open_pool<D: SectorDevice>(
         group: Group(found.uberblock.group.0 + 4),
         guid: found.uberblock.guid,
         moment,
-        root: tree.root,
+        root: contents.tree.root,
         import_number: found.uberblock.import_number + 1,
         log_address,
         log_number: 0,
@@ -285,7 +284,6 @@ fn open_pool<D: SectorDevice>(
         group: uberblock.group,
         import_number: uberblock.import_number,
         contents,
-        tree,
         free,
         log_address,
         records,

@@ -19,6 +19,6 @@ pub use finding::{Found, find_pool};
 pub use free_blocks::take_logged;
 pub use imported::Imported;
 pub use importing::import;
-pub use limits::Limits;
+pub use limits::{GREATEST_SHARED_CACHE_BLOCKS, Limits};
 pub use next_pool::{ReplayedPool, replay_pool};
 pub use reading::{frame_of, read_chain, read_pool};

@@ -7,19 +7,21 @@
 //! those of the new tree and the first log block. They are told from those that the load found: the blocks of the plan
 //! are taken, and what the plan replaces comes back. So the new tree isn't walked.
 
-ghost use Rattle.std.specs.Prelude.{◌≡◌, ◌<◌, ℕ, false, IfErr, IfOk};
+ghost use Rattle.std.specs.Prelude.{◌≡◌, ◌+◌, false, IfErr, IfOk};
 ghost use Rattle.base.specs.kept.Imports as numbers;
 ghost use Rattle.base.specs.tree.Mount.{records_above};
 ghost use Rattle.base.specs.formats.Geometry.{block_count};
-ghost use Rattle.base.specs.formats.Limits.{object_count};
 ghost use Rattle.base.specs.kept.PlacedTrees.{ArePlaced};
 ghost use Rattle.base.specs.tree.Places.{IsPlace, Place};
 ghost use Rattle.device_model.specs.Reading.{OnlyReads};
 ghost use Rattle.group_plans.specs.GroupPlans.{FitsIn, IsHeldRefusal, IsPlanRefusal, TakesLowest, plan_pointers};
-ghost use Rattle.tree_blocks.specs.SyncedTrees.{lengths_after};
+ghost use Rattle.contents.specs.ContentsShown.{contents_of};
+ghost use Rattle.extents.specs.Patches.{ArePatchesOf};
+ghost use Rattle.extents.specs.Synced.{HaveLengthsAfter, patched_contents};
+ghost use Rattle.extents.specs.Tables.{name_of, patches_of};
 ghost use Rattle.log_replay.specs.Replays.{IsChainAllowed, IsReplayCause, IsReplayRefusal};
+ghost use Rattle.tree_plans.specs.Marks.{pending_ops};
 ghost use Rattle.trees.specs.FreeBlocks.{AreUnnamed};
-ghost use Rattle.tree_blocks.specs.Lengths.{lengths_of};
 ghost use Rattle.tree_blocks.specs.Pointers.{pointers_of};
 ghost use Rattle.uberblocks.specs.Slots.{fields_of};
 ghost use Rattle.import_replay.specs.Devices.{IsSizedFor};
@@ -29,7 +31,8 @@ use crate::finding::Found;
 use crate::free_blocks::{lowest_left, take_logged, take_planned};
 use crate::reading::frame_of;
 use base::{Group, PoolError};
-use contents::Contents;
+use contents::SyncedTree;
+use extents::Extents;
 use group_plans::{GroupSource, plan_group};
 use intent_log::LoggedPiece;
 use labels::Geometry;
@@ -38,7 +41,6 @@ use mounted::give_all;
 use object_maps::BlockReader;
 use space::FreeSet;
 use std::alloc::Global;
-use tree_blocks::Tree;
 use tree_plans::{PlannedBlock, TreePlan};
 use trees::Loaded;
 use uberblocks::Uberblock;
@@ -46,10 +48,8 @@ use uberblocks::Uberblock;
 /// A pool that was read, with the records of its chain replayed.
 #[derive(Drop)]
 pub struct ReplayedPool {
-    /// The tree that was loaded.
-    pub tree: Tree,
-    /// The pool's name and the lengths of the objects of that tree, whose bytes are told.
-    pub synced: Contents,
+    /// The pool's name, and the tree that was loaded.
+    pub synced: SyncedTree,
     /// The blocks that no pointer of that tree names.
     pub free: FreeSet,
     /// The blocks that neither that tree nor the chain has.
@@ -63,10 +63,8 @@ pub struct ReplayedPool {
 pub(crate) struct NextPool {
     /// The blocks that the sync writes.
     pub blocks: Vec<PlannedBlock>,
-    /// The pointers of the tree that they make.
-    pub tree: Tree,
-    /// The pool's name and the lengths of its objects, whose bytes are told.
-    pub contents: Contents,
+    /// The pool's name, and the tree that they make.
+    pub contents: SyncedTree,
     /// The blocks that are neither in that tree nor the first log block.
     pub free: FreeSet,
     /// The address of the first log block, in bytes.
@@ -90,18 +88,20 @@ pub fn replay_pool(
     requires allowed { IsChainAllowed logged.items }
     requires free { AreUnnamed (block_count geometry) loaded.tree loaded.free }
     ensures replayed { IfOk result (IsReplayedPool geometry found.now.uberblock.group.0
-        found.now.name loaded.tree loaded.slots.items logged.items) }
+        found.now.name loaded.tree logged.items) }
     ensures refused { IfErr result (IsReplayRefusal
         (records_above found.now.uberblock.group.0 logged.items)
-        (synced_with found.now.name loaded.slots.items)) }
+        (synced_with found.now.name loaded.tree)) }
     ensures cause { IfErr result IsReplayCause }
 {
     let mut spare = loaded.free.copy(alloc)?;
     take_logged(&mut spare, geometry, &logged);
-    let synced = Contents::of(found.name.copy(), loaded.slots);
+    let synced = SyncedTree {
+        name: found.name.copy(),
+        tree: loaded.tree,
+    };
     let replayed = replay(alloc, found.uberblock.group, &synced, logged)?;
     Ok(ReplayedPool {
-        tree: loaded.tree,
         synced,
         free: loaded.free,
         spare,
@@ -121,9 +121,12 @@ pub(crate) fn plan_pool<B: BlockReader>(
     requires device { IsSizedFor B.SectorDevice geometry reader.old }
     requires within { numbers.is_past_last uberblock.now.group.0 uberblock.now.import_number
         ≡ false }
-    requires free { AreUnnamed (block_count geometry) pool.tree pool.free }
+    requires free { AreUnnamed (block_count geometry) pool.synced.tree pool.free }
     requires sized { pool.spare.blocks ≡ block_count geometry }
-    requires placed { ∥ ArePlaced (block_count geometry) (pointers_of pool.tree) ∥₁ }
+    requires placed { ∥ ArePlaced (block_count geometry) (pointers_of pool.synced.tree) ∥₁ }
+    requires changes { ArePatchesOf
+        (pending_ops (uberblock.now.group.0 + 4) pool.replayed.records.items)
+        (patches_of pool.replayed.extents) }
     ensures reads { OnlyReads B.SectorDevice result reader.old reader.new }
     ensures planned { IfOk result (IsPlannedPool
         (HoldsLoaded B.SectorDevice reader.old geometry (fields_of uberblock.now) pool)
@@ -134,7 +137,6 @@ pub(crate) fn plan_pool<B: BlockReader>(
 {
     let planned = plan_tree(alloc, reader, geometry, uberblock, &pool)?;
     let ReplayedPool {
-        tree,
         mut synced,
         mut free,
         spare,
@@ -144,11 +146,9 @@ pub(crate) fn plan_pool<B: BlockReader>(
     take_planned(&mut free, &planned.blocks);
     give_all(&mut free, geometry, &planned.freed);
     free.take(log_block);
-    replayed.extents.lay_into(&mut synced);
-    let (tree, blocks) = with_plan(tree, planned);
+    let blocks = lay_plan(&replayed.extents, &mut synced, planned);
     Ok(NextPool {
         blocks,
-        tree,
         contents: synced,
         free,
         log_address: geometry.block_address(log_block as u64),
@@ -170,7 +170,7 @@ fn plan_tree<B: BlockReader>(
     requires within { numbers.is_past_last uberblock.now.group.0 uberblock.now.import_number
         ≡ false }
     requires sized { pool.now.spare.blocks ≡ block_count geometry }
-    requires placed { ∥ ArePlaced (block_count geometry) (pointers_of pool.now.tree) ∥₁ }
+    requires placed { ∥ ArePlaced (block_count geometry) (pointers_of pool.now.synced.tree) ∥₁ }
     ensures reads { OnlyReads B.SectorDevice result reader.old reader.new }
     ensures fits { IfOk result (FitsIn geometry) }
     ensures taken { IfOk result (TakesLowest pool.now.spare.free) }
@@ -193,7 +193,7 @@ fn plan_tree<B: BlockReader>(
         geometry,
         guid: uberblock.guid,
         group: Group(uberblock.group.0 + 4),
-        tree: &pool.tree,
+        tree: &pool.synced.tree,
         free: &pool.spare,
     };
     plan_group(
@@ -202,17 +202,18 @@ fn plan_tree<B: BlockReader>(
         &source,
         &pool.replayed.records,
         &pool.replayed.extents,
-        &pool.synced,
     )
 }
 
-// The tree with what a plan makes of it, and the blocks that are to be written for it. It takes no memory.
-fn with_plan(mut tree: Tree, planned: TreePlan) -> (Tree, Vec<PlannedBlock>)
+// Makes of the synced tree what the records and a plan of these make of it, and returns the blocks that are to be
+// written for it. It takes no memory.
+fn lay_plan(changes: &Extents, synced: &mut SyncedTree, planned: TreePlan) -> Vec<PlannedBlock>
+    requires { HaveLengthsAfter (patches_of changes.now) planned.entries synced.old.tree }
+    ensures contents { contents_of synced.new ≡ patched_contents (patches_of changes.now)
+        (name_of changes.now) (contents_of synced.old) }
     ensures pointers { (place : Place) → IsPlace place
-        → pointers_of result.0 place ≡ plan_pointers tree planned place }
-    ensures lengths { (n : ℕ) → n < object_count
-        → lengths_of result.0 n ≡ lengths_after planned.entries tree n }
-    ensures blocks { result.1 ≡ planned.blocks }
+        → pointers_of synced.new.tree place ≡ plan_pointers synced.old.tree planned place }
+    ensures blocks { result ≡ planned.blocks }
 {
     let TreePlan {
         blocks,
@@ -221,6 +222,6 @@ fn with_plan(mut tree: Tree, planned: TreePlan) -> (Tree, Vec<PlannedBlock>)
         root,
         freed: _,
     } = planned;
-    tree.lay(root, directories, entries);
-    (tree, blocks)
+    changes.lay_into(synced, root, directories, entries);
+    blocks
 }

@@ -42,11 +42,11 @@ pub fn read_pool<D: SectorDevice>(
     ensures reads { OnlyReads D.SectorDevice result device.old device.new }
     ensures refused { IfErr result IsWalkRefusal }
     ensures loaded { IfOk result (λ r. IsLoadedFor (fields_of r.0.uberblock) (block_count geometry)
-        r.1.tree r.1.slots.items r.2.items) }
+        r.1.tree r.2.items) }
     ensures free { IfOk result (λ r. AreUnnamed (block_count geometry) r.1.tree r.1.free) }
     ensures pool { IsTrue D.keeps_model
         → IfOk result (λ r. IsReadPool (bytes_of (D.disk device.old).now) geometry
-        (fields_of r.0.uberblock) r.0.name r.1.tree r.1.slots.items r.2.items) }
+        (fields_of r.0.uberblock) r.0.name r.1.tree r.2.items) }
     ensures first { IsTrue D.keeps_model → IfOk result
         (λ r. HasFirstStage (bytes_of (D.disk device.old).now) r.0.uberblock.guid
         r.0.uberblock.group.0 r.0.name (is_even r.0.first)) }

@@ -104,7 +104,7 @@ module _ (old new : Disk) (moment dirty_max : ℕ) (m : Mounted) (import : IsImp
           (i, map-at address_of blocks i b at ∙ ap (λ (a : ℕ). Some a) same)
       by_flag false left = absurd (changed (unwritten k low left))
 
-  abbrev each : AreForEachPlace image written.synced.u written.synced.chain (pointers_of m.tree) (map address_of blocks)
+  abbrev each : AreForEachPlace image written.synced.u written.synced.chain (pointers_of m.contents.tree) (map address_of blocks)
   each = written.synced.each
 
   abbrev lowest : AreLowestSpare image written.synced.u written.synced.chain (map address_of blocks)
@@ -117,32 +117,32 @@ module _ (old new : Disk) (moment dirty_max : ℕ) (m : Mounted) (import : IsImp
   ops = ops_of_placed (records_above written.synced.u.group written.synced.chain)
 
   -- it is that of a place which the records write
-  place_at : (i address : ℕ) → slice_get (map address_of blocks) i ≡ Some address → (place : Place) × (slice_get places i ≡ Some place) × IsPlace place × ((pointers_of m.tree place).address ≡ address)
+  place_at : (i address : ℕ) → slice_get (map address_of blocks) i ≡ Some address → (place : Place) × (slice_get places i ≡ Some place) × IsPlace place × ((pointers_of m.contents.tree place).address ≡ address)
   place_at i address at =
-      let (place, there, same) = at-map (λ (p : Place). (pointers_of m.tree p).address) places i address (ap (λ (l : List ℕ). slice_get l i) each.each ∙ at) in
+      let (place, there, same) = at-map (λ (p : Place). (pointers_of m.contents.tree p).address) places i address (ap (λ (l : List ℕ). slice_get l i) each.each ∙ at) in
       (place, there, each_place (group_changes ops each.synced (has_block image written.synced.u.root)) i place there, same)
 
   some_pointer : (p : Pointer) (k : ℕ) → p.address ≡ block_address k → p ≢ no_pointer
   some_pointer p k at none = let zero_is : p.address ≡ 0 = ap (λ (q : Pointer). q.address) none in omega (arith, zero_is, at)
 
-  taken_in_tree : (k : ℕ) → IsAt (map address_of blocks) (block_address k) → IsInTree now m.tree.root (block_address k)
+  taken_in_tree : (k : ℕ) → IsAt (map address_of blocks) (block_address k) → IsInTree now m.contents.tree.root (block_address k)
   taken_in_tree k (i, at) =
       let (place, there, in_range, same) = place_at i (block_address k) at in
-      subst (λ (a : ℕ). IsInTree now m.tree.root a) same
-      (told-in_tree now (frame_of_import m) (pointers_of m.tree) (contents_of m.contents).objects import.stands.tree place in_range (some_pointer (pointers_of m.tree place) k same))
+      subst (λ (a : ℕ). IsInTree now m.contents.tree.root a) same
+      (told-in_tree now (frame_of_import m) (pointers_of m.contents.tree) (contents_of m.contents).objects import.stands.tree place in_range (some_pointer (pointers_of m.contents.tree place) k same))
 
   -- the place of a block that is taken, told by its pointer in the new tree
-  same_place : (i k : ℕ) (place : Place) → slice_get (map address_of blocks) i ≡ Some (block_address k) → IsPlace place → (pointer_of now m.tree.root place).address ≡ block_address k → slice_get places i ≡ Some place
+  same_place : (i k : ℕ) (place : Place) → slice_get (map address_of blocks) i ≡ Some (block_address k) → IsPlace place → (pointer_of now m.contents.tree.root place).address ≡ block_address k → slice_get places i ≡ Some place
   same_place i k place at in_range named =
       let (other, there, other_in_range, same) = place_at i (block_address k) at in
-      let told : (pointers_of m.tree place).address ≡ block_address k =
-      ap (λ (p : Pointer). p.address) (sym (pointers-told now (frame_of_import m) (pointers_of m.tree) (contents_of m.contents).objects import.stands.tree place in_range)) ∙ named in
+      let told : (pointers_of m.contents.tree place).address ≡ block_address k =
+      ap (λ (p : Pointer). p.address) (sym (pointers-told now (frame_of_import m) (pointers_of m.contents.tree) (contents_of m.contents).objects import.stands.tree place in_range)) ∙ named in
       let one : other ≡ place =
-      places-apart now (frame_of_import m) (pointers_of m.tree) (contents_of m.contents).objects import.stands.tree other place other_in_range in_range (some_pointer (pointers_of m.tree other) k same) (same ∙ sym told) in
+      places-apart now (frame_of_import m) (pointers_of m.contents.tree) (contents_of m.contents).objects import.stands.tree other place other_in_range in_range (some_pointer (pointers_of m.contents.tree other) k same) (same ∙ sym told) in
       there ∙ ap (λ (p : Place). Some p) one
 
   -- the block of a place that the records don't write stays
-  not_written : (k : ℕ) (place : Place) → k < block_count m.geometry → IsPlace place → (pointer_of now m.tree.root place).address ≡ block_address k
+  not_written : (k : ℕ) (place : Place) → k < block_count m.geometry → IsPlace place → (pointer_of now m.contents.tree.root place).address ≡ block_address k
       → (IsWrittenAt (group_changes ops each.synced (has_block image written.synced.u.root)) place → ⊥) → KeepsBlock old new k
   not_written k place low in_range named other = by_flag (is_planned k blocks) refl
     where
@@ -154,7 +154,7 @@ module _ (old new : Disk) (moment dirty_max : ℕ) (m : Mounted) (import : IsImp
       by_flag false left = unwritten k low left
 
   -- each block that has changed is one of the new tree
-  pub changed_in_tree : (k : ℕ) → k < block_count m.geometry → ChangesBlock old new k → IsInTree now m.tree.root (block_address k)
+  pub changed_in_tree : (k : ℕ) → k < block_count m.geometry → ChangesBlock old new k → IsInTree now m.contents.tree.root (block_address k)
   changed_in_tree k low changed = taken_in_tree k (changed_at k low changed)
 
   -- the blocks lie at the first spare addresses, in order
@@ -165,12 +165,12 @@ module _ (old new : Disk) (moment dirty_max : ℕ) (m : Mounted) (import : IsImp
   in_order i j x y at_i at_j before = rising-rises lowest.spare i j x y before (at_rising i x at_i) (at_rising j y at_j)
 
   -- If the root has changed, no block above it has.
-  pub root_highest : (k r : ℕ) → k < block_count m.geometry → r < block_count m.geometry → m.tree.root.address ≡ block_address r → ChangesBlock old new k → ChangesBlock old new r → k ≤ r
+  pub root_highest : (k r : ℕ) → k < block_count m.geometry → r < block_count m.geometry → m.contents.tree.root.address ≡ block_address r → ChangesBlock old new k → ChangesBlock old new r → k ≤ r
   root_highest k r k_low r_low named k_changed r_changed =
       let (i, at) = changed_at k k_low k_changed in
       let (last, at_last) = changed_at r r_low r_changed in
       let end : length places ≡ last + 1 = root_last (group_changes ops each.synced (has_block image written.synced.u.root)) last (same_place last r Root at_last tt named) in
-      let long : length (map address_of blocks) ≡ length places = ap (λ (l : List ℕ). length l) (sym each.each) ∙ length-map places (λ (p : Place). (pointers_of m.tree p).address) in
+      let long : length (map address_of blocks) ≡ length places = ap (λ (l : List ℕ). length l) (sym each.each) ∙ length-map places (λ (p : Place). (pointers_of m.contents.tree p).address) in
       let within = slice_get_within (map address_of blocks) i (block_address k) at in
       elim (cases_lt i last) as (λ _. k ≤ r) [
         | inl before ↦ (let less = in_order i last (block_address k) (block_address r) at at_last before in omega (arith, less))
@@ -204,7 +204,7 @@ module _ (old new : Disk) (moment dirty_max : ℕ) (m : Mounted) (import : IsImp
         no_block (b ∷ bs) h = absurd (omega (arith, h))
 
     -- no spare block below one that has changed is left out
-    pub lower_in_tree : (j k : ℕ) → k < block_count m.geometry → ChangesBlock old new k → j < k → (IsUsed image u.root chain (block_address j) → ⊥) → IsInTree now m.tree.root (block_address j)
+    pub lower_in_tree : (j k : ℕ) → k < block_count m.geometry → ChangesBlock old new k → j < k → (IsUsed image u.root chain (block_address j) → ⊥) → IsInTree now m.contents.tree.root (block_address j)
     lower_in_tree j k low changed less unused = taken_in_tree j (below_taken (changed_at k low changed))
       where
         below_taken : IsAt (map address_of blocks) (block_address k) → IsAt (map address_of blocks) (block_address j)
@@ -252,13 +252,13 @@ module _ (old new : Disk) (moment dirty_max : ℕ) (m : Mounted) (import : IsImp
 
       -- the records of its strip m, and the indirect block of that strip
       pub other_record : (strip r k : ℕ) → strip < indirect_count → object_of_indirect strip ≡ n → r < pointer_count → k < block_count m.geometry
-          → (pointer_of now m.tree.root (Data strip r)).address ≡ block_address k → KeepsBlock old new k
+          → (pointer_of now m.contents.tree.root (Data strip r)).address ≡ block_address k → KeepsBlock old new k
       other_record strip r k strip_low of r_low k_low named =
           not_written k (Data strip r) k_low (strip_low, r_low) named
           (λ is. false≢true (sym (ap is_dirty (no_state (record_of_strip (strip_of strip) r))) ∙ sym (ap (λ (o : ℕ). is_record_written changes o (strip_of strip) r) of) ∙ is.2))
 
       pub other_indirect : (strip k : ℕ) → strip < indirect_count → object_of_indirect strip ≡ n → k < block_count m.geometry
-          → (pointer_of now m.tree.root (Indirect strip)).address ≡ block_address k → KeepsBlock old new k
+          → (pointer_of now m.contents.tree.root (Indirect strip)).address ≡ block_address k → KeepsBlock old new k
       other_indirect strip k strip_low of k_low named =
           not_written k (Indirect strip) k_low strip_low named (λ is.
           let both = and_parts (if changes.is_long n then is_strip_changed changes n (strip_of strip) else (strip_of strip == 0) && changes.is_changed n) (has_strip_after changes n (strip_of strip))

@@ -60,7 +60,7 @@ fn no_block_of_the_tree_is_free<D: SectorDevice>(
 ) -> Result<Imported<D>, (PoolError, D)>
     ensures { IsTrue D.keeps_model → IfOk result (λ i. (address : ℕ)
         → set.contains i.mounted.free.free address ≡ true
-        → IsInTree (bytes_of (D.disk i.device).now) i.mounted.tree.root address → ⊥) }
+        → IsInTree (bytes_of (D.disk i.device).now) i.mounted.contents.tree.root address → ⊥) }
 {
     import(alloc, device, LIMITS, 0)
 }

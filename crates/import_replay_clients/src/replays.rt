@@ -79,14 +79,14 @@ fn an_import_leaves_out_no_lower_block<D: SectorDevice>(
     ensures there { IsTrue D.keeps_model → IfOk result (λ i. (k : ℕ)
         → k < block_count i.mounted.geometry
         → ChangesBlock (D.disk device) (D.disk i.device) k
-        → IsInTree (bytes_of (D.disk i.device).now) i.mounted.tree.root (block_address k)) }
+        → IsInTree (bytes_of (D.disk i.device).now) i.mounted.contents.tree.root (block_address k)) }
     ensures lower { IsTrue D.keeps_model → IfOk result (λ i. (u : image.Uberblock)
         → (chain : List LogPiece) → (contents : Contents)
         → Mounts (bytes_of (D.disk device).now) u chain contents
         → (j k : ℕ) → k < block_count i.mounted.geometry
         → ChangesBlock (D.disk device) (D.disk i.device) k → j < k
         → (IsUsed (bytes_of (D.disk device).now) u.root chain (block_address j) → ⊥)
-        → IsInTree (bytes_of (D.disk i.device).now) i.mounted.tree.root (block_address j)) }
+        → IsInTree (bytes_of (D.disk i.device).now) i.mounted.contents.tree.root (block_address j)) }
 {
     import(alloc, device, LIMITS, 0)
 }
@@ -98,7 +98,7 @@ fn the_new_root_is_the_highest_block<D: SectorDevice>(
 ) -> Result<Imported<D>, (PoolError, D)>
     ensures { IsTrue D.keeps_model → IfOk result (λ i. (k root : ℕ)
         → k < block_count i.mounted.geometry → root < block_count i.mounted.geometry
-        → i.mounted.tree.root.address ≡ block_address root
+        → i.mounted.contents.tree.root.address ≡ block_address root
         → ChangesBlock (D.disk device) (D.disk i.device) k
         → ChangesBlock (D.disk device) (D.disk i.device) root → k ≤ root) }
 {
@@ -116,7 +116,7 @@ fn an_object_without_records_is_not_written<D: SectorDevice>(
         → Mounts (bytes_of (D.disk device).now) u chain contents
         → list_any (is_on 7) (ops_of_placed (records_above u.group chain)) ≡ false
         → (k : ℕ) → k < block_count i.mounted.geometry
-        → (data_pointer (bytes_of (D.disk i.device).now) i.mounted.tree.root 7 2).address
+        → (data_pointer (bytes_of (D.disk i.device).now) i.mounted.contents.tree.root 7 2).address
         ≡ block_address k
         → KeepsBlock (D.disk device) (D.disk i.device) k) }
     ensures pointers { IsTrue D.keeps_model → IfOk result (λ i. (u : image.Uberblock)
@@ -124,7 +124,7 @@ fn an_object_without_records_is_not_written<D: SectorDevice>(
         → Mounts (bytes_of (D.disk device).now) u chain contents
         → list_any (is_on 7) (ops_of_placed (records_above u.group chain)) ≡ false
         → (k : ℕ) → k < block_count i.mounted.geometry
-        → (indirect_pointer (bytes_of (D.disk i.device).now) i.mounted.tree.root 7).address
+        → (indirect_pointer (bytes_of (D.disk i.device).now) i.mounted.contents.tree.root 7).address
         ≡ block_address k
         → KeepsBlock (D.disk device) (D.disk i.device) k) }
 {

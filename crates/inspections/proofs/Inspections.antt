@@ -17,8 +17,8 @@ use Rattle.base.specs.history.Contents.{Contents}
 use Rattle.base.specs.steps.Exact.{IsBounded}
 use Rattle.base.specs.steps.Groups.{Line}
 use Rattle.base.proofs.crash.OneMount.{mounts_agree}
-use Rattle.contents.specs.ContentsShown.{contents_of, objects_of}
-use Rattle.contents.specs.declared.contents.Slot.{Slot}
+use Rattle.contents.specs.ContentsShown.{contents_of}
+use Rattle.tree_blocks.specs.TreeObjects.{objects_of}
 use Rattle.extents.specs.Patches.{laid_over}
 use Rattle.extents.specs.Tables.{name_of, patches_of}
 use Rattle.tree_blocks.specs.declared.tree.Tree.{Tree}
@@ -47,15 +47,15 @@ are_within objects bounded n = go (finite.get objects n) (bounded n)
     go (Some bytes) h = (h.0, h.1)
 
 -- A pool that was read, and what is told of it once its records were replayed.
-module _ (size : ℕ) (u : Uberblock) (name : List ℕ) (tree : Tree) (slots : List Slot) (chain : List LogPiece) (pool : ReplayedPool) (named : IsName name) (loaded : IsLoadedFor u (block_count size) tree slots chain)
-    (r : IsReplayedPool size u.group name tree slots chain pool) (lengths : List (ObjectId × ℕ))
+module _ (size : ℕ) (u : Uberblock) (name : List ℕ) (tree : Tree) (chain : List LogPiece) (pool : ReplayedPool) (named : IsName name) (loaded : IsLoadedFor u (block_count size) tree chain)
+    (r : IsReplayedPool size u.group name tree chain pool) (lengths : List (ObjectId × ℕ))
     (lists : AreWithin (laid_over (patches_of pool.replayed.extents) (contents_of pool.synced).objects) → lengths ≡ listed (laid_over (patches_of pool.replayed.extents) (contents_of pool.synced).objects))
     (i : Inspected) (told : IsInspectedFrom u (unwrap_or (name_of pool.replayed.extents) pool.synced.name) lengths (length pool.replayed.records.items) (block_count size) pool.spare.free i) where
   abbrev contents : Contents
-  contents = replays.after size u name tree slots chain pool named loaded r
+  contents = replays.after size u name tree chain pool named loaded r
 
   bounded : IsBounded contents
-  bounded = replays.bounded size u name tree slots chain pool named loaded r
+  bounded = replays.bounded size u name tree chain pool named loaded r
 
   tells : IsToldOf i contents
   tells = record { name_is = told.name_is; objects_are = told.lengths_are ∙ lists (are_within contents.objects bounded.objects) }
@@ -64,11 +64,11 @@ module _ (size : ℕ) (u : Uberblock) (name : List ℕ) (tree : Tree) (slots : L
   is_told_bounded = (contents, tells, bounded)
 
   records_counted : length (records_above u.group chain) ≡ i.records
-  records_counted = sym (replays.count size u name tree slots chain pool named loaded r) ∙ sym told.records_are
+  records_counted = sym (replays.count size u name tree chain pool named loaded r) ∙ sym told.records_are
 
-  module _ (image : List ℕ) (read : IsReadPool image size u name tree slots chain) where
+  module _ (image : List ℕ) (read : IsReadPool image size u name tree chain) where
     mounts : Mounts image u chain contents
-    mounts = mounts_read image size u name tree slots chain read pool.synced r.name_is r.slots_are contents r.replayed.applied
+    mounts = mounts_read image size u name tree chain read pool.synced r.name_is r.tree_is contents r.replayed.applied
 
     same_count : block_count (length image) ≡ i.blocks
     same_count = ap block_count read.long ∙ sym told.blocks_are
@@ -89,7 +89,7 @@ module _ (size : ℕ) (u : Uberblock) (name : List ℕ) (tree : Tree) (slots : L
         import_number = sym told.import_number;
         blocks = same_count;
         records = records_counted;
-        used = use_count image size u name tree (objects_of slots) chain read loaded.placed loaded.sound pool.spare.free unused i.used told.used;
+        used = use_count image size u name tree (objects_of tree) chain read loaded.placed loaded.sound pool.spare.free unused i.used told.used;
       },
     )
 
@@ -109,10 +109,10 @@ module _ (size : ℕ) (u : Uberblock) (name : List ℕ) (tree : Tree) (slots : L
     inspected = (is_inspection, agrees_with_imports)
 
 -- where a record of its chain is refused, the chain is damaged
-pub is_chain_damaged : (image : List ℕ) (size : ℕ) (u : Uberblock) (name : List ℕ) (tree : Tree) (slots : List Slot) (chain : List LogPiece) → IsReadPool image size u name tree slots chain → (e : PoolError)
-    → IsReplayCause e → IsReplayRefusal (records_above u.group chain) (synced_with name slots) e → (address : ℕ) → e ≡ Damaged 6 address → IsChainDamaged image address
-is_chain_damaged image size u name tree slots chain read e cause refused address is =
-    elim ((reason_of_replay image size u name tree slots chain read e cause refused).damaged 6 address is) as (λ _. IsChainDamaged image address) [
+pub is_chain_damaged : (image : List ℕ) (size : ℕ) (u : Uberblock) (name : List ℕ) (tree : Tree) (chain : List LogPiece) → IsReadPool image size u name tree chain → (e : PoolError)
+    → IsReplayCause e → IsReplayRefusal (records_above u.group chain) (synced_with name tree) e → (address : ℕ) → e ≡ Damaged 6 address → IsChainDamaged image address
+is_chain_damaged image size u name tree chain read e cause refused address is =
+    elim ((reason_of_replay image size u name tree chain read e cause refused).damaged 6 address is) as (λ _. IsChainDamaged image address) [
       | inl damaged ↦ absurd (not_of_tree damaged.damage.place damaged.damage.kind_is)
       | inr log ↦ log.1
     ]

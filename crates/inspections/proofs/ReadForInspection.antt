@@ -8,7 +8,7 @@ use Rattle.base.specs.formats.Chain.{LogPiece}
 use Rattle.base.specs.formats.Geometry.{block_count}
 use Rattle.base.specs.kept.PlacedTrees.{ArePlaced}
 use Rattle.intent_log.specs.Chains.{IsSoundPiece}
-use Rattle.contents.specs.ContentsShown.{objects_of}
+use Rattle.tree_blocks.specs.TreeObjects.{objects_of}
 use Rattle.tree_blocks.specs.Pointers.{pointers_of}
 use Rattle.trees.specs.FreeBlocks.{AreUnnamed}
 use Rattle.trees.specs.Examined.{IsLoadedOf}
@@ -28,11 +28,10 @@ is_read keeps image disk size frame found l chain long same pool framed is sound
   loaded = record {
     root = is.root_is;
     placed = subst (λ (f : Frame). ArePlaced f.blocks (pointers_of l.tree)) framed is.placed;
-    bounded = is.objects.0;
-    lengths = is.objects.1;
+    bounded = is.objects;
     sound = sound;
   };
   free = subst (λ (f : Frame). AreUnnamed f.blocks l.tree l.free) framed is.unnamed;
   pool = λ kept.
-      is_read_pool image disk size frame (fields_of found.uberblock) found.name (long kept) (same kept) (pool kept) framed l.tree (objects_of l.slots.items) chain (is.held kept) is.root_is (chain_is kept);
+      is_read_pool image disk size frame (fields_of found.uberblock) found.name (long kept) (same kept) (pool kept) framed l.tree (objects_of l.tree) chain (is.held kept) is.root_is (chain_is kept);
 }

@@ -1,6 +1,6 @@
 -- A view has the objects of what the image mounts: the records of the chain, as changes of one group over the synced
 -- tree, make of its objects what an import makes of them.
-use Rattle.std.proofs.Common.{◌≡◌, ◌≢◌, ℕ, ◌<◌, ◌≤◌, ◌⊎◌, inl, inr, List, [], ◌∷◌, ◌++◌, refl, sym, subst, ap, ◌∙◌, append_assoc, arith}
+use Rattle.std.proofs.Common.{◌≡◌, ◌≢◌, ℕ, ◌<◌, ◌≤◌, ◌⊎◌, inl, inr, List, [], ◌∷◌, ◌++◌, refl, sym, ap, ◌∙◌, append_assoc, arith}
 use Rattle.std.specs.Prelude.{All, IfErr, IsTrue, Result, Ok, Err}
 use Rattle.std.specs.Option.{option_map_or}
 use Rattle.std.specs.Ordering.{nat_cmp}
@@ -35,17 +35,14 @@ use Rattle.extents.proofs.LaidObjects.{get-laid_over, get-laid_past, laid_nothin
 use Rattle.extents.proofs.LaidWithin.{patches_sized}
 use Rattle.extents.proofs.PatchedObjects.{patched_nothing}
 use Rattle.extents.proofs.SamePatches.{changes_added, changes_left}
-use Rattle.log_replay.specs.Replays.{IsReplayCause, ops_of_records}
-use Rattle.contents.specs.ContentsShown.{contents_of, objects_of}
-use Rattle.tree_blocks.specs.Lengths.{HasLengthsOf}
+use Rattle.log_replay.specs.Replays.{ops_of_records}
+use Rattle.contents.specs.ContentsShown.{contents_of}
 use Rattle.contents.specs.Ops.{AreOpsAllowed}
 use Rattle.tree_blocks.specs.Sources.{range_in}
-use Rattle.contents.specs.declared.contents.Slot.{Slot}
 use Rattle.tree_blocks.specs.declared.tree.Tree.{Tree}
 use Rattle.object_reads.specs.ShownTrees.{IsRangeRefusal, IsRangeRefusalOnTree, StandsOn, shown_objects}
 use Rattle.object_reads.specs.declared.shown_tree.ShownTree.{ShownTree}
 use Rattle.records.specs.declared.record.Record.{Record}
-use Rattle.import_replay.specs.ImportRefusals.{IsWalkRefusal}
 use Rattle.import_replay.specs.NextPools.{IsReplayedPool}
 use Rattle.import_replay.specs.ReadPools.{IsReadPool, frame_with}
 use Rattle.inspections.specs.Views.{AreAdded, AreAllChanges, FitsOn, IsViewOfImage, IsViewRefusal, objects_seen}
@@ -115,20 +112,19 @@ seen ops e patches below are are_too =
     ∙ sym (laid_nothing (changes_at e 1) first are.second (get-laid_past (changes_at e 0) below))
     ∙ sym (laid_nothing (changes_at e 2) second are.third (get-laid_past (changes_at e 1) first))
 
-module _ (size : ℕ) (u : Uberblock) (name : List ℕ) (tree : Tree) (slots : List Slot) (chain : List LogPiece) (pool : ReplayedPool) (replayed : IsReplayedPool size u.group name tree slots chain pool) (v : View)
+module _ (size : ℕ) (u : Uberblock) (name : List ℕ) (tree : Tree) (chain : List LogPiece) (pool : ReplayedPool) (replayed : IsReplayedPool size u.group name tree chain pool) (v : View)
     (framed : v.frame ≡ frame_with u (block_count size)) where
   -- what was read of a disk, with its records as changes
-  pub is_view : (disk : Disk) → IsReadPool (bytes_of disk.now) size u name tree slots chain → HasLengthsOf tree (objects_of slots) → v.tree ≡ pool.tree → v.synced ≡ pool.synced
+  pub is_view : (disk : Disk) → IsReadPool (bytes_of disk.now) size u name tree chain → v.synced ≡ pool.synced
       → AreAllChanges (ops_of_records pool.replayed.records.items) v.changes → IsViewOfImage (bytes_of disk.now) v
-  is_view disk read lengths tree_is synced_is are =
+  is_view disk read synced_is are =
       let contents : Contents = patched_contents (patches_of pool.replayed.extents) (name_of pool.replayed.extents) (contents_of pool.synced) in
-      let held = loaded_held size u name tree slots chain pool replayed lengths disk disk refl read in
+      let held = loaded_held size u name tree chain pool replayed disk disk refl read in
       record {
         contents = contents;
-        mounts = (u, chain, mounts_read (bytes_of disk.now) size u name tree slots chain read pool.synced replayed.name_is replayed.slots_are contents replayed.replayed.applied);
+        mounts = (u, chain, mounts_read (bytes_of disk.now) size u name tree chain read pool.synced replayed.name_is replayed.tree_is contents replayed.replayed.applied);
         objects = rw synced_is (seen (ops_of_records pool.replayed.records.items) v.changes (patches_of pool.replayed.extents) (contents_of pool.synced).objects are replayed.replayed.patches);
-        tree = rw (framed, tree_is, synced_is) held.held;
-        lengths = rw (tree_is, synced_is) held.lengths;
+        tree = rw (framed, synced_is) held;
       }
 
 -- its blocks lie on the device
@@ -136,16 +132,16 @@ pub fits : (size bytes : ℕ) (u : Uberblock) (v : View) → IsGeometry size →
 fits size bytes u v sized is framed = let end = blocks-end size sized in rw framed (omega (arith, end, is))
 
 -- a read of a view
-module _ (v : View) (t : ShownTree) (framed : t.frame ≡ v.frame) (tree : t.tree.now ≡ v.tree) (contents : t.contents.now ≡ v.synced) (changes : t.changes.now ≡ v.changes) where
+module _ (v : View) (t : ShownTree) (framed : t.frame ≡ v.frame) (tree : t.tree.now ≡ v.synced.tree) (changes : t.changes.now ≡ v.changes) where
   pub objects_are : shown_objects t ≡ objects_seen v
-  objects_are = rw (contents, changes) refl
+  objects_are = rw (tree, changes) refl
 
   pub tree_fits : (size : ℕ) → FitsOn size v → block_address t.frame.blocks ≤ size
   tree_fits size is = rw framed is
 
   -- it stands on a device that has what the view found
   pub stands : {Dev : Type 0} (D : Ghosts Dev) (device : Dev) → IsTrue D.keeps_model → IsViewOfImage (bytes_of (D.disk device).now) v → StandsOn D device t
-  stands D device keeps is = record { keeps = keeps; tree = rw (framed, tree, contents) is.tree; lengths = rw (tree, contents) is.lengths }
+  stands D device keeps is = record { keeps = keeps; tree = rw (framed, tree) is.tree }
 
 -- a refusal of a read that passed the tests is none of these
 pub not_absent : {A : Type 0} (r : Result A PoolError) (P : Type 0) → IfErr r IsRangeRefusal → IfErr r (λ e. e ≡ NoObject → P)

@@ -13,9 +13,9 @@ use Rattle.inspections.specs.declared.damages.ExaminedPool.TheVariants.{Damaged,
 
 -- what was loaded of a pool that was found, with its chain, is as `read_pool` gives it
 pub record IsReadFor (keeps : Bool) (image : List ℕ) (size : ℕ) (found : Found) (l : Loaded) (chain : List LogPiece) : Type 0 where
-  pub loaded : IsLoadedFor (fields_of found.uberblock) (block_count size) l.tree l.slots.items chain
+  pub loaded : IsLoadedFor (fields_of found.uberblock) (block_count size) l.tree chain
   pub free : AreUnnamed (block_count size) l.tree l.free
-  pub pool : IsTrue keeps → IsReadPool image size (fields_of found.uberblock) found.name l.tree l.slots.items chain
+  pub pool : IsTrue keeps → IsReadPool image size (fields_of found.uberblock) found.name l.tree chain
 
 -- what was examined: the same, or the damages of the tree
 abbrev pub IsExaminedFor : Bool → List ℕ → ℕ → ExaminedPool → Type 0

@@ -1,5 +1,5 @@
 -- What a view of a pool has: the objects of what the image mounts, and the tree that they are read from.
-use Rattle.std.specs.Prelude.{ℕ, ◌≡◌, ◌≤◌, ◌⊎◌, ◌&&◌, ◌++◌, All, false, List}
+use Rattle.std.specs.Prelude.{ℕ, ◌≡◌, ◌≤◌, ◌⊎◌, ◌++◌, All, false, List}
 use Rattle.std.specs.Ordering.{nat_cmp}
 use Rattle.std.specs.FinMap.{FinMap}
 use Rattle.base.specs.tree.Mount.{MountsTo}
@@ -15,8 +15,7 @@ use Rattle.unsynced_extents.specs.declared.unsynced.UnsyncedExtents.{UnsyncedExt
 use Rattle.extents.specs.Patches.{ArePatchesOf, no_patch}
 use Rattle.unsynced_extents.specs.Unsynced.{changes_at, laid_all}
 use Rattle.log_replay.specs.Replays.{ops_of_records}
-use Rattle.contents.specs.ContentsShown.{contents_of}
-use Rattle.tree_blocks.specs.Lengths.{HasLengthsOf}
+use Rattle.tree_blocks.specs.TreeObjects.{objects_of}
 use Rattle.contents.specs.Ops.{AreOpsAllowed}
 use Rattle.tree_blocks.specs.Pointers.{pointers_of}
 use Rattle.object_reads.specs.ShownTrees.{IsRangeRefusal}
@@ -39,20 +38,18 @@ pub record AreAdded (records left : List Record) (e : UnsyncedExtents) : Type 0 
 
 -- the objects that reads of a view have
 abbrev pub objects_seen : View → FinMap nat_cmp (List ℕ)
-objects_seen v = laid_all v.changes (contents_of v.synced).objects
+objects_seen v = laid_all v.changes (objects_of v.synced.tree)
 
 -- the blocks of the view's tree lie on a device of so many bytes
 abbrev pub FitsOn : ℕ → View → Type 0
 FitsOn size v = block_address v.frame.blocks ≤ size
 
--- The view has the objects of contents that the image mounts. The image holds the tree that they are read from, and the
--- tree in memory has the lengths of its objects.
+-- The view has the objects of contents that the image mounts. The image holds the tree that they are read from.
 pub record IsViewOfImage (image : List ℕ) (v : View) : Type 0 where
   pub contents : Contents
   pub mounts : MountsTo image contents
   pub objects : contents.objects ≡ objects_seen v
-  pub tree : HoldsTree image v.frame (pointers_of v.tree) (contents_of v.synced).objects
-  pub lengths : HasLengthsOf v.tree (contents_of v.synced).objects
+  pub tree : HoldsTree image v.frame (pointers_of v.synced.tree) (objects_of v.synced.tree)
 
 -- a read of a range is refused: outside the limits, for no object, or as its blocks are
 abbrev pub IsViewRefusal : ObjectId → Range → PoolError → Type 0

@@ -106,10 +106,10 @@ fn judge_log(
     logged: Vec<LoggedPiece>,
 ) -> Result<Soundness, PoolError>
     requires loaded { IsLoadedFor (fields_of found.now.uberblock) (block_count geometry)
-        loaded.tree loaded.slots.items logged.items }
+        loaded.tree logged.items }
     requires free { AreUnnamed (block_count geometry) loaded.tree loaded.free }
     ensures found { (image : List ℕ) → IsReadPool image geometry (fields_of found.now.uberblock)
-        found.now.name loaded.tree loaded.slots.items logged.items
+        found.now.name loaded.tree logged.items
         → IfOk result (IsSoundnessOf image) }
     ensures refused { IfErr result (λ e. e ≡ PoolError.NoMemory) }
 {

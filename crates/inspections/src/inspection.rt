@@ -84,20 +84,20 @@ pub(crate) fn report(
     logged: Vec<LoggedPiece>,
 ) -> Result<Inspected, PoolError>
     requires loaded { IsLoadedFor (fields_of found.now.uberblock) (block_count geometry)
-        loaded.tree loaded.slots.items logged.items }
+        loaded.tree logged.items }
     requires free { AreUnnamed (block_count geometry) loaded.tree loaded.free }
     ensures mounted { (image : List ℕ) → IsReadPool image geometry (fields_of found.now.uberblock)
-        found.now.name loaded.tree loaded.slots.items logged.items
+        found.now.name loaded.tree logged.items
         → IfOk result (λ i. IsInspectionOf image i × AgreesWithImports image i) }
     ensures bounded { IfOk result IsToldOfBounded }
     ensures cause { IfErr result IsReplayCause }
     ensures damaged { (image : List ℕ) → IsReadPool image geometry (fields_of found.now.uberblock)
-        found.now.name loaded.tree loaded.slots.items logged.items
+        found.now.name loaded.tree logged.items
         → IfErr result (λ e. (address : ℕ) → e ≡ PoolError.Damaged 6 address
         → IsChainDamaged image address) }
 {
     let pool = replay_pool(alloc, geometry, found, loaded, logged)?;
-    let objects = list_objects(alloc, &Laid::new(&pool.replayed.extents, &pool.synced))?;
+    let objects = list_objects(alloc, &Laid::new(&pool.replayed.extents, &pool.synced.tree))?;
     Ok(tell(geometry, &found.uberblock, &pool, objects))
 }
 

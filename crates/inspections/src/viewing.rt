@@ -22,7 +22,7 @@ ghost use Rattle.mounted.specs.Ranges.{is_readable};
 
 use base::{Bytes, OBJECT_COUNT, ObjectId, Op, PoolError, Range};
 use checked_blocks::Frame;
-use contents::Contents;
+use contents::SyncedTree;
 use device_model::SectorDevice;
 use import_replay::{ReplayedPool, frame_of, read_pool, replay_pool};
 use labels::Geometry;
@@ -31,15 +31,14 @@ use object_reads::ShownTree;
 use records::Record;
 use std::alloc::{AllocError, Global};
 use std::fmt;
-use tree_blocks::{ObjectSource, Tree};
+use tree_blocks::ObjectSource;
 use unsynced_extents::UnsyncedExtents;
 
 /// A pool as an import would mount it. It doesn't hold the device: each read is handed a `BlockReader`.
 #[derive(Drop)]
 pub struct View {
     frame: Frame,
-    tree: Tree,
-    synced: Contents,
+    synced: SyncedTree,
     changes: UnsyncedExtents,
 }
 
@@ -74,13 +73,11 @@ pub fn view_pool<D: SectorDevice>(alloc: Global, device: &mut D) -> Result<View,
 fn view_of(alloc: Global, frame: Frame, pool: ReplayedPool) -> Result<View, AllocError>
     requires { All (λ (r : Logged). AreOpsAllowed r.ops) pool.replayed.records.items }
     ensures frame { IfOk result (λ v. v.frame ≡ frame) }
-    ensures tree { IfOk result (λ v. v.tree ≡ pool.tree) }
     ensures synced { IfOk result (λ v. v.synced ≡ pool.synced) }
     ensures changes { IfOk result
         (λ v. AreAllChanges (ops_of_records pool.replayed.records.items) v.changes) }
 {
     let ReplayedPool {
-        tree,
         synced,
         free: _,
         spare: _,
@@ -89,7 +86,6 @@ fn view_of(alloc: Global, frame: Frame, pool: ReplayedPool) -> Result<View, Allo
     let changes = changes_of(alloc, replayed.records)?;
     Ok(View {
         frame,
-        tree,
         synced,
         changes,
     })
@@ -131,7 +127,7 @@ impl View {
     pub fn length(&self, object: ObjectId) -> Option<u64>
         ensures { result ≡ object_length (objects_seen self.now) object.0 }
     {
-        self.changes.over(&self.synced).length(object)
+        self.changes.over(&self.synced.tree).length(object)
     }
 
     /// The bytes of a range that lie below the object's length. Only the parts of records that they lie in are read,
@@ -175,14 +171,12 @@ impl View {
     // What reads need of the objects.
     fn shown_tree(&self) -> ShownTree<'_>
         ensures frame { result.frame ≡ self.now.frame }
-        ensures tree { result.tree.now ≡ self.now.tree }
-        ensures contents { result.contents.now ≡ self.now.synced }
+        ensures tree { result.tree.now ≡ self.now.synced.tree }
         ensures changes { result.changes.now ≡ self.now.changes }
     {
         ShownTree {
             frame: self.frame,
-            tree: &self.tree,
-            contents: &self.synced,
+            tree: &self.synced.tree,
             changes: &self.changes,
         }
     }

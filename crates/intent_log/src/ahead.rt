@@ -1,6 +1,6 @@
 //! Log blocks that are sealed before their turn. The checks of four blocks side by side cost about as much as those of
-//! two alone (`checked_blocks::seal_four`). So the next block is sealed beside three that follow it, if two of these are
-//! known at least.
+//! two alone (`hash_lanes`). So the next block is sealed beside three that follow it (`checked_blocks::seal_all`), if two
+//! of these are known at least.
 //!
 //! 1. A block that follows is known if it has a part of a long record. It is also known if it has whole records behind
 //!    which the next pending one doesn't fit. The last pending records make no known block: others may come behind them.
@@ -9,11 +9,12 @@
 //! 3. So no clause rests on what waits. If the blocks that follow are refused memory, the next block is sealed alone,
 //!    which needs none.
 
-ghost use Rattle.std.specs.Prelude.{◌≡◌, ◌<◌, ◌≤◌, ◌+◌, ◌^◌, All, IfOk, IfSome, IsTrue, length, map, take, vec_len};
+ghost use Rattle.std.specs.Prelude.{◌≡◌, ◌<◌, ◌≤◌, ◌^◌, All, IfOk, IfSome, IsTrue, drop, length, map, vec_len};
 ghost use Rattle.base.specs.formats.Limits.{log_block_room};
 ghost use Rattle.base.specs.formats.Records.{IsAllowed};
+ghost use Rattle.checked_blocks.specs.Sealing.{padded};
 ghost use Rattle.records.specs.Records.{record_fields};
-ghost use Rattle.intent_log.specs.Ahead.{place_beside};
+ghost use Rattle.intent_log.specs.Ahead.{IsSealedAt, place_beside};
 ghost use Rattle.intent_log.specs.Packing.{HoldsBytes, log_bytes};
 
 use crate::chains::ChainHeader;
@@ -21,7 +22,7 @@ use crate::packing::{
     Encoded, LOG_BLOCK_ROOM, NewBlock, RECORDS_AT, encode_front, payload_of, seal_records,
 };
 use base::PoolError;
-use checked_blocks::{Block, Content, Kind, PAYLOAD_SIZE, seal_four};
+use checked_blocks::{Block, Kind, Lanes, Prepared, SealedBlock, seal_all};
 use records::Record;
 use std::alloc::{AllocError, Global};
 use std::marker::Model;
@@ -50,7 +51,7 @@ impl Ahead {
     {
         for sealed in &self.blocks {
             if sealed.is_for(place, records) {
-                return Some(sealed.block.copy());
+                return Some(sealed.block.to_block());
             }
         }
         None
@@ -62,7 +63,7 @@ impl Ahead {
 struct SealedAhead {
     place: NewBlock,
     records: Vec<u8>,
-    block: Block,
+    block: SealedBlock,
 }
 
 impl Model for SealedAhead {
@@ -253,17 +254,8 @@ struct FollowingBlock {
 }
 
 impl FollowingBlock {
-    fn payload(&self) -> [u8; PAYLOAD_SIZE]
-        ensures payload { take (24 + vec_len self.now.records) result
-            ≡ log_bytes self.now.header.import_number self.now.next self.now.records.items }
-        ensures chain_fits { self.now.header.import_number < 2 ^ 64 }
-        ensures next_fits { self.now.next < 2 ^ 64 }
-    {
-        payload_of(self.header.import_number, self.next, &self.records)
-    }
-
     // It waits: this is the block, in the pool and the group of another one.
-    fn into_sealed(self, beside: &NewBlock, block: Block) -> SealedAhead
+    fn into_sealed(self, beside: &NewBlock, block: SealedBlock) -> SealedAhead
         requires { HoldsBytes (place_beside beside.now self.header self.next) block
             self.records.items }
     {
@@ -297,34 +289,68 @@ fn seal_with(
     };
     // before any check is made: a refusal costs none
     let mut blocks = Vec::with_capacity(alloc, AHEAD)?;
-    let first = payload_of(place.header.import_number, place.next, records);
-    let (second, third, fourth) = (b.payload(), c.payload(), d.payload());
-    let sealed = seal_four(
-        Kind::Log as u64,
-        place.guid,
-        place.group,
-        &content(place.header.number, &first, records.len()),
-        &content(b.header.number, &second, b.records.len()),
-        &content(c.header.number, &third, c.records.len()),
-        &content(d.header.number, &fourth, d.records.len()),
-    );
-    let Ok([block, second, third, fourth]) = sealed else {
-        return Ok(None);
-    };
+    let (first, second, third, fourth) = seal_side_by_side(
+        alloc,
+        place,
+        prepare(alloc, &place.header, place.next, records)?,
+        prepare(alloc, &b.header, b.next, &b.records)?,
+        prepare(alloc, &c.header, c.next, &c.records)?,
+        prepare(alloc, &d.header, d.next, &d.records)?,
+    )?;
     blocks.push_reserved(b.into_sealed(place, second));
     blocks.push_reserved(c.into_sealed(place, third));
     blocks.push_reserved(d.into_sealed(place, fourth));
-    Ok(Some((block, Ahead { blocks })))
+    Ok(Some((first.to_block(), Ahead { blocks })))
 }
 
-// What a block has of its own: its number, and so many bytes of records behind the fields of its payload.
-fn content(number: u64, payload: &[u8; PAYLOAD_SIZE], count: usize) -> Content<'_>
-    requires { count ≤ log_block_room }
-    ensures number { result.number ≡ number }
-    ensures payload { result.payload.now ≡ take (24 + count) payload.now }
+// A log block with this header, this next address and these bytes of records, before it is sealed.
+fn prepare(
+    alloc: Global,
+    header: &ChainHeader,
+    next: u64,
+    records: &[u8],
+) -> Result<Prepared, AllocError>
+    requires { length records.now ≤ log_block_room }
+    ensures number { IfOk result (λ block. block.number ≡ header.now.number) }
+    ensures payload { IfOk result (λ block. drop 64 block.bytes.value
+        ≡ padded (log_bytes header.now.import_number next records.now)) }
+    ensures chain_fits { header.now.import_number < 2 ^ 64 }
+    ensures next_fits { next < 2 ^ 64 }
 {
-    Content {
-        number,
-        payload: &payload[..RECORDS_AT + count],
-    }
+    let payload = payload_of(header.import_number, next, records);
+    Prepared::new(alloc, header.number, &payload[..RECORDS_AT + records.len()])
+}
+
+// Four prepared log blocks in the pool and the group of a place. With four, more lanes save nothing.
+fn seal_side_by_side(
+    alloc: Global,
+    place: &NewBlock,
+    first: Prepared,
+    second: Prepared,
+    third: Prepared,
+    fourth: Prepared,
+) -> Result<(SealedBlock, SealedBlock, SealedBlock, SealedBlock), AllocError>
+    ensures first { IfOk result (λ sealed. IsSealedAt place.now first sealed.0) }
+    ensures second { IfOk result (λ sealed. IsSealedAt place.now second sealed.1) }
+    ensures third { IfOk result (λ sealed. IsSealedAt place.now third sealed.2) }
+    ensures fourth { IfOk result (λ sealed. IsSealedAt place.now fourth sealed.3) }
+{
+    let blocks = vec![in alloc; first, second, third, fourth]?;
+    let mut sealed = seal_all(
+        alloc,
+        Lanes::Four,
+        Kind::Log as u64,
+        place.guid,
+        place.group,
+        blocks,
+    )?;
+    let (Some(d), Some(c), Some(b), Some(a)) = (
+        sealed.pop(),
+        sealed.pop(),
+        sealed.pop(),
+        sealed.pop(),
+    ) else {
+        unreachable!()
+    };
+    Ok((a, b, c, d))
 }

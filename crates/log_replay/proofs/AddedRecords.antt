@@ -14,12 +14,10 @@ use Rattle.base.specs.formats.Records.{IsAllowed}
 use Rattle.base.specs.history.Contents.{Contents}
 use Rattle.base.specs.history.History.{replay, run}
 use Rattle.base.proofs.common.Sequences.{joined, parted}
-use Rattle.contents.specs.declared.contents.Contents as declared
-use Rattle.contents.specs.ContentsShown.{contents_of}
 use Rattle.contents.specs.Judging.{ApplyTo}
 use Rattle.contents.specs.Ops.{AreOpsAllowed}
 use Rattle.extents.specs.declared.extents.Extents.{Extents}
-use Rattle.extents.specs.Patches.{laid_over, no_patch}
+use Rattle.extents.specs.Patches.{AreNumbered, laid_over, no_patch}
 use Rattle.extents.specs.Tables.{AppliesOps, name_of, patches_of}
 use Rattle.extents.proofs.LaidObjects.{laid_nothing}
 use Rattle.records.specs.Records.{record_fields}
@@ -29,7 +27,6 @@ use Rattle.log_replay.specs.Judged.{IsRefusedOver}
 use Rattle.log_replay.specs.Replays.{IsReplayRefusal}
 use Rattle.log_replay.specs.Walked.{above_at, placed_at}
 use Rattle.log_replay.proofs.AppliedRecords.{reached_contents}
-use Rattle.log_replay.proofs.ReplayedRecords.{contents_numbered}
 use Rattle.log_replay.proofs.WalkedRecords.{above-piece, above-cons, above-next, above-passed}
 
 -- records after others that take place
@@ -43,10 +40,10 @@ apply_records-append (x ∷ xs) ys c d h =
 pub adds_none : (before synced : Contents) (e : Extents) → before ≡ with_changes e synced → LeadsTo before synced [] (Ok 0) e
 adds_none before synced e is = (omega arith, ap Ok is)
 
-pub begun : (c : declared.Contents) (e : Extents) → ((n : ℕ) → patches_of e n ≡ no_patch) → name_of e ≡ None → contents_of c ≡ with_changes e (contents_of c)
-begun c e none unnamed =
-    let same : laid_over (patches_of e) (contents_of c).objects ≡ (contents_of c).objects = laid_nothing (patches_of e) (contents_of c).objects none (contents_numbered c) in
-    λ i. record { name = unwrap_or ((sym unnamed) i) (contents_of c).name; objects = (sym same) i }
+pub begun : (c : Contents) (e : Extents) → AreNumbered c.objects → ((n : ℕ) → patches_of e n ≡ no_patch) → name_of e ≡ None → c ≡ with_changes e c
+begun c e numbered none unnamed =
+    let same : laid_over (patches_of e) c.objects ≡ c.objects = laid_nothing (patches_of e) c.objects none numbered in
+    λ i. record { name = unwrap_or ((sym unnamed) i) c.name; objects = (sym same) i }
 
 module _ (before synced : Contents) (xs ys : List Placed) (n : ℕ) (mid new : Extents) (first : LeadsTo before synced xs (Ok n) mid) where
   adds_both : (m k : ℕ) → AddsRecords synced ys mid (Ok m) new → k ≡ counted_up_to_last (n + m) → LeadsTo before synced (xs ++ ys) (Ok k) new

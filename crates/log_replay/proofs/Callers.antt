@@ -1,5 +1,5 @@
 -- What replays of two small chains come to.
-use Rattle.std.proofs.Common.{◌≡◌, ℕ, ◌⊎◌, inl, inr, [], ◌∷◌, Some, None, Ok, Err, refl, ap, sym, ◌∙◌, arith, length}
+use Rattle.std.proofs.Common.{◌≡◌, ℕ, ◌⊎◌, inl, inr, [], ◌∷◌, Some, None, Ok, refl, ap, sym, ◌∙◌, length}
 use Rattle.std.specs.Prelude.{Result, option_map, unwrap_or}
 use Rattle.std.specs.FinMap as finite
 use Rattle.base.specs.declared.error.PoolError.{PoolError}

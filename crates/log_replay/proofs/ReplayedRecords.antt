@@ -1,5 +1,5 @@
 -- A replay of some records, with one more that takes place, is the replay of all of them.
-use Rattle.std.proofs.Common.{◌≡◌, ℕ, ◌+◌, List, [], ◌∷◌, ◌++◌, map, None, Ok, Err, refl, ap, sym, ◌∙◌, append-nil, arith}
+use Rattle.std.proofs.Common.{◌≡◌, ℕ, ◌+◌, List, [], ◌∷◌, ◌++◌, map, None, Ok, Err, refl, ap, sym, ◌∙◌, append-nil}
 use Rattle.std.specs.Prelude.{unwrap_or}
 use Rattle.std.proofs.lemmas.Grind.{flat_map-append}
 use Rattle.std.proofs.lemmas.List.{map-append}
@@ -11,12 +11,11 @@ use Rattle.base.specs.history.Contents.{Contents}
 use Rattle.base.specs.history.History.{Entry, apply_all, run}
 use Rattle.base.specs.history.Sequences.{in_turn}
 use Rattle.base.proofs.common.Sequences.{in_turn-append, joined}
-use Rattle.contents.specs.declared.contents.Contents as declared
+use Rattle.contents.specs.declared.synced_tree.SyncedTree.{SyncedTree}
 use Rattle.contents.specs.ContentsShown.{contents_of}
 use Rattle.contents.specs.Judging.{ApplyTo}
 use Rattle.contents.specs.Ops.{AreOpsAllowed}
-use Rattle.contents.proofs.ContentsShown.{get-objects_past}
-use Rattle.extents.specs.Patches.{AreNumbered, laid_over, no_patch, patched}
+use Rattle.extents.specs.Patches.{laid_over, no_patch, patched}
 use Rattle.extents.specs.Synced.{patched_contents}
 use Rattle.extents.specs.Tables.{AppliesOps, name_of, patches_of}
 use Rattle.extents.proofs.LaidObjects.{laid_nothing}
@@ -24,13 +23,10 @@ use Rattle.extents.proofs.PatchedObjects.{patched_nothing}
 use Rattle.extents.proofs.SamePatches.{added_changes}
 use Rattle.records.specs.declared.record.Record.{Record}
 use Rattle.records.specs.Records.{record_fields}
+use Rattle.tree_blocks.proofs.TreeObjects.{tree_numbered}
 use Rattle.log_replay.specs.declared.replaying.Replayed.{Replayed}
 use Rattle.log_replay.specs.Replays.{IsRecordRefused, IsReplayOf, ops_of_records, record_in}
 use Rattle.log_replay.proofs.AppliedRecords.{reached_contents}
-
--- contents in slots have no objects past the last number
-pub contents_numbered : (c : declared.Contents) → AreNumbered (contents_of c).objects
-contents_numbered c n past = get-objects_past c.slots.items n (let all = c.all_objects in omega (arith, all, past))
 
 -- a record that takes place after others
 pub records_reached : (records : List Placed) (p : Placed) (c mid after : Contents) → apply_records records c ≡ Ok mid → apply_all p.logged.ops mid ≡ Ok after
@@ -41,9 +37,9 @@ records_reached records p c mid after before last =
     ∙ in_turn-append run (map entry records) (entry p ∷ []) c mid after before (joined (run (entry p) mid) (in_turn run []) after after last refl)
 
 -- at first there are no changes and no records
-pub nothing_replayed : (group : ℕ) (c : declared.Contents) (r : Replayed) → ((n : ℕ) → patches_of r.extents n ≡ no_patch) → name_of r.extents ≡ None → r.records.items ≡ [] → IsReplayOf group (contents_of c) [] r
+pub nothing_replayed : (group : ℕ) (c : SyncedTree) (r : Replayed) → ((n : ℕ) → patches_of r.extents n ≡ no_patch) → name_of r.extents ≡ None → r.records.items ≡ [] → IsReplayOf group (contents_of c) [] r
 nothing_replayed group c r none unnamed empty = record {
-  applied = let same : laid_over (patches_of r.extents) (contents_of c).objects ≡ (contents_of c).objects = laid_nothing (patches_of r.extents) (contents_of c).objects none (contents_numbered c) in
+  applied = let same : laid_over (patches_of r.extents) (contents_of c).objects ≡ (contents_of c).objects = laid_nothing (patches_of r.extents) (contents_of c).objects none (tree_numbered c.tree) in
       λ i. Ok (record { name = unwrap_or ((sym unnamed) i) (contents_of c).name; objects = sym same i });
   patches = λ n below. ap (λ p. patched p below) (none n) ∙ patched_nothing below ∙ rw empty refl;
   records_are = ap (map record_fields) empty;

@@ -14,114 +14,114 @@ ghost use Rattle.log_replay.specs.Replays.{IsChainAllowed};
 use crate::changes::changes_of;
 use crate::replaying::{Replayed, replay};
 use base::{Group, PoolError};
-use contents::Contents;
+use contents::SyncedTree;
 use extents::Extents;
 use intent_log::LoggedPiece;
 use std::alloc::Global;
 
 fn an_empty_chain_has_no_record(
     alloc: Global,
-    contents: &Contents,
+    synced: &SyncedTree,
     pieces: Vec<LoggedPiece>,
 ) -> Result<Replayed, PoolError>
     requires { pieces.items ≡ [] }
     ensures records { IfOk result (λ r. r.records.items ≡ []) }
     ensures objects { IfOk result (λ r.
-        laid_over (patches_of r.extents) (contents_of contents.now).objects
-        ≡ (contents_of contents.now).objects) }
+        laid_over (patches_of r.extents) (contents_of synced.now).objects
+        ≡ (contents_of synced.now).objects) }
 {
-    replay(alloc, Group(9), contents, pieces)
+    replay(alloc, Group(9), synced, pieces)
 }
 
 // The tree of the active group has it.
 fn a_record_of_the_active_group_is_passed_over(
     alloc: Global,
-    contents: &Contents,
+    synced: &SyncedTree,
     pieces: Vec<LoggedPiece>,
 ) -> Result<Replayed, PoolError>
     requires chain { pieces.items ≡ creation_chain 9 }
     requires allowed { IsChainAllowed pieces.items }
     ensures records { IfOk result (λ r. r.records.items ≡ []) }
     ensures objects { IfOk result (λ r.
-        laid_over (patches_of r.extents) (contents_of contents.now).objects
-        ≡ (contents_of contents.now).objects) }
+        laid_over (patches_of r.extents) (contents_of synced.now).objects
+        ≡ (contents_of synced.now).objects) }
 {
-    replay(alloc, Group(9), contents, pieces)
+    replay(alloc, Group(9), synced, pieces)
 }
 
 fn a_record_of_a_group_above_takes_place_four_groups_later(
     alloc: Global,
-    contents: &Contents,
+    synced: &SyncedTree,
     pieces: Vec<LoggedPiece>,
 ) -> Result<Replayed, PoolError>
     requires chain { pieces.items ≡ creation_chain 10 }
     requires allowed { IsChainAllowed pieces.items }
-    requires absent { finite.get (contents_of contents.now).objects 7 ≡ None }
+    requires absent { finite.get (contents_of synced.now).objects 7 ≡ None }
     ensures record { IfOk result (λ r. map record_fields r.records.items ≡ creation 13 ∷ []) }
     ensures object { IfOk result (λ r. finite.get
-        (laid_over (patches_of r.extents) (contents_of contents.now).objects) 7 ≡ Some []) }
+        (laid_over (patches_of r.extents) (contents_of synced.now).objects) 7 ≡ Some []) }
 {
-    replay(alloc, Group(9), contents, pieces)
+    replay(alloc, Group(9), synced, pieces)
 }
 
 // A record may name the pool: what it leaves has that name.
 fn a_record_names_the_pool(
     alloc: Global,
-    contents: &Contents,
+    synced: &SyncedTree,
     pieces: Vec<LoggedPiece>,
 ) -> Result<Replayed, PoolError>
     requires chain { pieces.items ≡ naming_chain 10 }
     requires allowed { IsChainAllowed pieces.items }
-    ensures { IfOk result (λ r. unwrap_or (name_of r.extents) (contents_of contents.now).name
+    ensures { IfOk result (λ r. unwrap_or (name_of r.extents) (contents_of synced.now).name
         ≡ 112 ∷ 111 ∷ 110 ∷ 100 ∷ []) }
 {
-    replay(alloc, Group(9), contents, pieces)
+    replay(alloc, Group(9), synced, pieces)
 }
 
 // The only other refusal is for memory.
 fn a_record_that_is_refused_is_a_damage_of_its_piece(
     alloc: Global,
-    contents: &Contents,
+    synced: &SyncedTree,
     pieces: Vec<LoggedPiece>,
 ) -> Result<Replayed, PoolError>
     requires chain { pieces.items ≡ creation_chain 10 }
     requires allowed { IsChainAllowed pieces.items }
-    requires there { finite.get (contents_of contents.now).objects 7 ≡ Some [] }
+    requires there { finite.get (contents_of synced.now).objects 7 ≡ Some [] }
     ensures refused { IsErr result }
     ensures address { IfErr result
         (λ e. (e ≡ PoolError.NoMemory) ⊎ (e ≡ PoolError.Damaged 6 4194304)) }
 {
-    replay(alloc, Group(9), contents, pieces)
+    replay(alloc, Group(9), synced, pieces)
 }
 
 // It is refused so if nothing but the changes is asked for.
 fn a_record_that_is_refused_changes_nothing(
     alloc: Global,
-    contents: &Contents,
+    synced: &SyncedTree,
     pieces: &[LoggedPiece],
 ) -> Result<(Extents, u64), PoolError>
     requires chain { pieces.now ≡ creation_chain 10 }
     requires allowed { IsChainAllowed pieces.now }
-    requires there { finite.get (contents_of contents.now).objects 7 ≡ Some [] }
+    requires there { finite.get (contents_of synced.now).objects 7 ≡ Some [] }
     ensures refused { IsErr result }
     ensures address { IfErr result
         (λ e. (e ≡ PoolError.NoMemory) ⊎ (e ≡ PoolError.Damaged 6 4194304)) }
 {
-    changes_of(alloc, Group(9), contents, pieces)
+    changes_of(alloc, Group(9), &synced.tree, pieces)
 }
 
 // Object 7 is created by one record, and the next one writes 5 bytes at 3.
 fn lengths_follow_the_records(
     alloc: Global,
-    contents: &Contents,
+    synced: &SyncedTree,
     pieces: &[LoggedPiece],
 ) -> Result<(Extents, u64), PoolError>
     requires chain { pieces.now ≡ growing_chain 10 }
     requires allowed { IsChainAllowed pieces.now }
-    requires absent { finite.get (contents_of contents.now).objects 7 ≡ None }
+    requires absent { finite.get (contents_of synced.now).objects 7 ≡ None }
     ensures count { IfOk result (λ r. r.1 ≡ 2) }
     ensures length { IfOk result (λ r. object_length
-        (laid_over (patches_of r.0) (contents_of contents.now).objects) 7 ≡ Some 8) }
+        (laid_over (patches_of r.0) (contents_of synced.now).objects) 7 ≡ Some 8) }
 {
-    changes_of(alloc, Group(9), contents, pieces)
+    changes_of(alloc, Group(9), &synced.tree, pieces)
 }

@@ -14,7 +14,7 @@ ghost use Rattle.log_replay.specs.Replays.{IsPieceAllowed, IsChainAllowed, IsRep
 
 use crate::judging::judge_record;
 use base::{Group, PoolError};
-use contents::Contents;
+use contents::SyncedTree;
 use extents::{Extents, Laid};
 use intent_log::LoggedPiece;
 use records::Record;
@@ -37,21 +37,21 @@ pub struct Replayed {
 pub fn replay(
     alloc: Global,
     group: Group,
-    contents: &Contents,
+    synced: &SyncedTree,
     pieces: Vec<LoggedPiece>,
 ) -> Result<Replayed, PoolError>
     requires group { group.0 ≤ last_number }
     requires allowed { IsChainAllowed pieces.items }
-    ensures replayed { IfOk result (IsReplay group.0 (contents_of contents.now) pieces.items) }
+    ensures replayed { IfOk result (IsReplay group.0 (contents_of synced.now) pieces.items) }
     ensures refused { IfErr result
-        (IsReplayRefusal (records_above group.0 pieces.items) (contents_of contents.now)) }
+        (IsReplayRefusal (records_above group.0 pieces.items) (contents_of synced.now)) }
     ensures found { (address : ℕ) → IsRecordRefused (records_above group.0 pieces.items)
-        (contents_of contents.now) address → IsErr result }
+        (contents_of synced.now) address → IsErr result }
     ensures cause { IfErr result IsReplayCause }
 {
     let mut replayed = Replayed::new(alloc);
     for piece in pieces {
-        replayed.apply_piece(contents, group, piece)?;
+        replayed.apply_piece(synced, group, piece)?;
     }
     Ok(replayed)
 }
@@ -59,8 +59,8 @@ pub fn replay(
 impl Replayed {
     // No records. It takes no memory.
     fn new(alloc: Global) -> Self
-        ensures { (group : ℕ) (contents : Contents)
-            → IsReplayOf group (contents_of contents) [] result }
+        ensures { (group : ℕ) (synced : SyncedTree)
+            → IsReplayOf group (contents_of synced) [] result }
     {
         Replayed {
             extents: Extents::new(alloc),
@@ -71,20 +71,20 @@ impl Replayed {
     // Applies the records of a piece, after those of the pieces before it.
     fn apply_piece(
         &mut self,
-        contents: &Contents,
+        synced: &SyncedTree,
         group: Group,
         piece: LoggedPiece,
     ) -> Result<(), PoolError>
         requires group { group.0 ≤ last_number }
         requires allowed { IsPieceAllowed piece }
         ensures applied { (records rest : List Placed)
-            → HasReplayedTo group.0 (contents_of contents.now)
+            → HasReplayedTo group.0 (contents_of synced.now)
             records (records_above group.0 (piece ∷ []) ++ rest) self.old
-            → OnOk result (HasReplayedTo group.0 (contents_of contents.now) records rest self.new) }
+            → OnOk result (HasReplayedTo group.0 (contents_of synced.now) records rest self.new) }
         ensures refused { (records rest : List Placed)
-            → HasReplayedTo group.0 (contents_of contents.now)
+            → HasReplayedTo group.0 (contents_of synced.now)
             records (records_above group.0 (piece ∷ []) ++ rest) self.old
-            → IfErr result (IsReplayRefusal records (contents_of contents.now)) }
+            → IfErr result (IsReplayRefusal records (contents_of synced.now)) }
         ensures cause { IfErr result IsReplayCause }
     {
         let address = piece.address();
@@ -92,7 +92,7 @@ impl Replayed {
         for record in piece.into_records() {
             if record.group.0 > group.0 {
                 self.apply(
-                    contents,
+                    synced,
                     address,
                     Record {
                         group: next,
@@ -106,18 +106,18 @@ impl Replayed {
     }
 
     // Applies a record of the piece at an address.
-    fn apply(&mut self, contents: &Contents, address: u64, logged: Record) -> Result<(), PoolError>
+    fn apply(&mut self, synced: &SyncedTree, address: u64, logged: Record) -> Result<(), PoolError>
         requires { AreOpsAllowed logged.ops }
         ensures applies { OnOk result (ApplyTo logged.ops
-            (laid_over (patches_of self.old.extents) (contents_of contents.now).objects)) }
+            (laid_over (patches_of self.old.extents) (contents_of synced.now).objects)) }
         ensures extents { OnOk result (AppliesOps logged.ops self.old.extents self.new.extents) }
         ensures records { OnOk result (self.new.records.items
             ≡ self.old.records.items ++ logged ∷ []) }
         ensures refused { IfErr result (IsRecordRefusal logged.ops address
-            (laid_over (patches_of self.old.extents) (contents_of contents.now).objects)) }
+            (laid_over (patches_of self.old.extents) (contents_of synced.now).objects)) }
     {
         judge_record(
-            &Laid::new(&self.extents, contents),
+            &Laid::new(&self.extents, &synced.tree),
             address,
             logged.ops.as_slice(),
         )?;

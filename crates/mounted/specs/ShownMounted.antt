@@ -1,10 +1,10 @@
 -- What was mounted, as contracts see the pool.
-use Rattle.std.specs.Prelude.{ℕ, ◌+◌, false, [], None}
+use Rattle.std.specs.Prelude.{◌+◌, false, [], None}
 use Rattle.std.specs.FinMap as finite
 use Rattle.base.specs.formats.Geometry.{block_count}
 use Rattle.base.specs.steps.Shown.{Shown, listed}
 use Rattle.contents.specs.ContentsShown.{contents_of}
-use Rattle.tree_blocks.specs.Lengths.{lengths_of}
+use Rattle.tree_blocks.specs.TreeObjects.{lengths_of}
 use Rattle.mounted.specs.declared.mounted.Mounted.{Mounted}
 
 -- the pool as it is shown when the import is done: the synced group is the import's, the next one is open, and nothing
@@ -27,8 +27,8 @@ shown_of_import m = record {
   reserved = finite.empty;
   free = m.free.free;
   log = record { unsynced = []; begun = None; pending = []; kept = []; next = record { address = m.log_address; number = 0 } };
-  root = m.tree.root;
+  root = m.contents.tree.root;
   synced_contents = contents_of m.contents;
-  lengths = listed (lengths_of m.tree);
+  lengths = listed (lengths_of m.contents.tree);
   sync = None;
 }

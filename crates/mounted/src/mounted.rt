@@ -8,12 +8,11 @@ ghost use Rattle.tree_blocks.specs.Pointers.{pointers_of};
 ghost use Rattle.space.specs.FreeSets.{IsIdle};
 
 use base::Group;
-use contents::Contents;
+use contents::SyncedTree;
 use labels::Geometry;
 use space::FreeSet;
 use std::alloc::Global;
 use std::fmt;
-use tree_blocks::Tree;
 
 /// What an import mounted and wrote.
 #[derive(Drop)]
@@ -28,10 +27,9 @@ pub struct Mounted {
     pub group: Group,
     /// How many imports the pool has had, this one included.
     pub import_number: u64,
-    /// The pool's name and the lengths of its objects, whose bytes are told.
-    pub contents: Contents,
-    /// The pointers of the tree that the import synced, down to what its directories name. Those below are told.
-    pub tree: Tree,
+    /// The pool's name and the tree that the import synced: the lengths of its objects, and the pointers down to what its
+    /// directories name. The pointers below and the bytes of the objects are told.
+    pub contents: SyncedTree,
     /// The blocks that are neither in the tree nor the first log block.
     pub free: FreeSet,
     /// The address of the first log block, in bytes.
@@ -46,7 +44,7 @@ pub struct Mounted {
     ghost group_fits: { (first_group ≤ group.0) × (group.0 < last_number) },
     ghost import_fits: { import_number ≤ last_number },
     ghost log_placed: { ∥ IsBlockAddress (block_count geometry) log_address ∥₁ },
-    ghost tree_placed: { ∥ ArePlaced (block_count geometry) (pointers_of tree) ∥₁ },
+    ghost tree_placed: { ∥ ArePlaced (block_count geometry) (pointers_of contents.tree) ∥₁ },
 }
 
 /// The type's name alone.

@@ -9,7 +9,7 @@ ghost use Rattle.base.specs.tree.Damages.{IsFirstDamage, IsSoundAt};
 ghost use Rattle.base.specs.tree.Places.{IsPlace, Place, directory_pointer, kind_of, pointer_of};
 ghost use Rattle.base.specs.tree.Places.Place.{Directory, Root};
 ghost use Rattle.space.specs.FreeSets.{is_free};
-ghost use Rattle.tree_blocks.specs.Lengths.{lengths_of};
+ghost use Rattle.tree_blocks.specs.TreeObjects.{lengths_of};
 ghost use Rattle.trees.specs.Examined.{damages_of};
 ghost use Rattle.trees.specs.declared.damages.BlockDamage.{BlockDamage};
 

@@ -11,9 +11,8 @@ ghost use Rattle.base.specs.tree.Damages.{IsSoundAt};
 ghost use Rattle.base.specs.kept.PlacedTrees.{padded_record};
 ghost use Rattle.base.specs.tree.Places.{directory_pointer, pointer_of};
 ghost use Rattle.base.specs.tree.Places.Place.{Data, Directory};
-ghost use Rattle.tree_blocks.specs.Lengths.{lengths_of};
+ghost use Rattle.tree_blocks.specs.TreeObjects.{lengths_of, objects_of};
 ghost use Rattle.object_maps.specs.BlockReads.{IsLoadRefusal};
-ghost use Rattle.contents.specs.ContentsShown.{objects_of};
 ghost use Rattle.space.specs.FreeSets.{is_free};
 
 use base::{Pointer, PoolError};
@@ -73,7 +72,7 @@ fn an_absent_entry_has_no_object<D: SectorDevice>(
     requires keeps { IsTrue D.keeps_model }
     requires entry { entry_in (payload_at (bytes_of (D.disk device.old).now)
         (directory_pointer (bytes_of (D.disk device.old).now) root 0).address) 7 ≡ replicate 64 0 }
-    ensures { IfOk result (λ l. finite.get (objects_of l.slots.items) 7 ≡ None) }
+    ensures { IfOk result (λ l. finite.get (objects_of l.tree) 7 ≡ None) }
 {
     let loaded = load(alloc, device, frame, root)?;
     Ok(loaded)
@@ -89,7 +88,7 @@ fn a_record_lands_in_its_place<D: SectorDevice>(
     requires fits { block_address frame.now.blocks ≤ D.size device.old }
     requires keeps { IsTrue D.keeps_model }
     requires there { pointer_of (bytes_of (D.disk device.old).now) root (Data 7 1) ≢ no_pointer }
-    ensures { IfOk result (λ l. IfSome (finite.get (objects_of l.slots.items) 7) (λ bytes.
+    ensures { IfOk result (λ l. IfSome (finite.get (objects_of l.tree) 7) (λ bytes.
         padded_record 1 bytes ≡ payload_at (bytes_of (D.disk device.old).now)
         (pointer_of (bytes_of (D.disk device.old).now) root (Data 7 1)).address)) }
 {

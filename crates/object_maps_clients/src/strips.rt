@@ -14,8 +14,8 @@ ghost use Rattle.tree_blocks.specs.Pointers.{strip_in};
 
 use base::{Pointer, PoolError, Told};
 use checked_blocks::Frame;
-use contents::{BytesView, no_bytes, with_bytes, zero_bytes};
 use object_maps::{BlockReader, read_top, strip_pointer};
+use tree_blocks::{BytesView, no_bytes, with_bytes, zero_bytes};
 
 // Bytes that are told at a place stand there.
 fn a_byte_is_told_in_its_place() -> Told<BytesView>

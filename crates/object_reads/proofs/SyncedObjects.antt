@@ -78,7 +78,6 @@ module _ {Dev : Type 0} (D : Ghosts Dev) (t : ShownTree) where
   stood_before old new same stands = record {
     keeps = stands.keeps;
     tree = subst (λ (d : Disk). HoldsTree (bytes_of d.now) t.frame (pointers_of t.tree.now) (synced_objects t)) (same stands.keeps) stands.tree;
-    lengths = stands.lengths;
   }
 
   -- a disk that stays holds the tree
@@ -86,7 +85,6 @@ module _ {Dev : Type 0} (D : Ghosts Dev) (t : ShownTree) where
   stands_still old new same stands = record {
     keeps = stands.keeps;
     tree = subst (λ (d : Disk). HoldsTree (bytes_of d.now) t.frame (pointers_of t.tree.now) (synced_objects t)) (sym (same stands.keeps)) stands.tree;
-    lengths = stands.lengths;
   }
 
   -- the top of an object of two levels, by the object's entry

@@ -12,8 +12,7 @@ use Rattle.base.specs.tree.Places.Place.{Indirect, Data}
 use Rattle.base.specs.kept.PlacedTrees.{HoldsTree}
 use Rattle.device_model.specs.declared.device.SectorDevice.{Ghosts}
 use Rattle.object_maps.specs.Cached.{IsReadRefusal}
-use Rattle.contents.specs.ContentsShown.{contents_of}
-use Rattle.tree_blocks.specs.Lengths.{HasLengthsOf}
+use Rattle.tree_blocks.specs.TreeObjects.{objects_of}
 use Rattle.tree_blocks.specs.Pointers.{pointers_of}
 use Rattle.unsynced_extents.specs.Unsynced.{laid_all}
 use Rattle.object_reads.specs.declared.pointer_blocks.PointerBlocks.{PointerBlocks}
@@ -21,17 +20,16 @@ use Rattle.object_reads.specs.declared.shown_tree.ShownTree.{ShownTree}
 
 -- the objects of the synced tree
 abbrev pub synced_objects : ShownTree → FinMap nat_cmp (List ℕ)
-synced_objects t = (contents_of t.contents.now).objects
+synced_objects t = objects_of t.tree.now
 
 -- and with the changes of the unsynced groups laid over them
 abbrev pub shown_objects : ShownTree → FinMap nat_cmp (List ℕ)
 shown_objects t = laid_all t.changes.now (synced_objects t)
 
--- a device keeps the model, its disk holds the synced tree, and the tree in memory has the lengths of its objects
+-- a device keeps the model, and its disk holds the synced tree
 pub record StandsOn {Dev : Type 0} (D : Ghosts Dev) (device : Dev) (t : ShownTree) : Type 0 where
   pub keeps : IsTrue D.keeps_model
   pub tree : HoldsTree (bytes_of (D.disk device).now) t.frame (pointers_of t.tree.now) (synced_objects t)
-  pub lengths : HasLengthsOf t.tree.now (synced_objects t)
 
 -- a payload has the pointers to the records of strip m
 abbrev pub ArePointersTo : ShownTree → ℕ → List ℕ → Type 0

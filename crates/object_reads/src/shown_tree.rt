@@ -15,7 +15,6 @@ ghost use Rattle.tree_blocks.specs.Sources.{AreBytesFrom, object_bytes, object_l
 use crate::pointer_blocks::PointerBlocks;
 use base::{ObjectId, POINTER_COUNT, PoolError};
 use checked_blocks::Frame;
-use contents::Contents;
 use extents::Laid;
 use object_maps::{BlockReader, read_part, record_pointer};
 use tree_blocks::{ObjectSource, Tree, strip_number};
@@ -28,14 +27,12 @@ pub struct ShownTree<'a> {
     pub frame: Frame,
     /// The pointers of the synced tree, down to what its directories name, and the lengths of its objects.
     pub tree: &'a Tree,
-    /// The lengths of its objects.
-    pub contents: &'a Contents,
     /// What the unsynced groups made of them.
     pub changes: &'a UnsyncedExtents,
 }
 
 // The objects of the synced tree, with what the unsynced groups made of them, by their lengths.
-type Objects<'a> = Laid<'a, Laid<'a, Laid<'a, &'a Contents>>>;
+type Objects<'a> = Laid<'a, Laid<'a, Laid<'a, &'a Tree>>>;
 
 impl<'a> ShownTree<'a> {
     ghost use Rattle.object_reads.specs.ShownTrees.{ArePointerBlocksOf, StandsOn, shown_objects, synced_objects};
@@ -44,7 +41,7 @@ impl<'a> ShownTree<'a> {
     pub(crate) fn objects(&self) -> Objects<'a>
         ensures { ⟦<Objects<'a> as ObjectSource>⟧.objects result ≡ shown_objects self.now }
     {
-        self.changes.over(self.contents)
+        self.changes.over(self.tree)
     }
 
     // The length of an object that is shown in bytes, if it is there.
@@ -116,7 +113,7 @@ impl<'a> ShownTree<'a> {
         ensures sound { StandsOn B.SectorDevice reader.old self.now
             → IfErr result (λ e. e ≡ error.Read) }
     {
-        let Some(size) = self.contents.length(id) else {
+        let Some(size) = self.tree.length(id) else {
             into.fill(0);
             return Ok(());
         };

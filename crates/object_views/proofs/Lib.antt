@@ -1,5 +1,6 @@
 pub mod OwnRecords
 pub mod OwnLaws
+mod PoolNames
 pub mod ObjectViews
 pub mod SeenBytes
 pub mod FoundViews
@@ -9,3 +10,4 @@ pub mod Listings
 pub mod TestedBlocks
 pub mod ReadPlaces
 pub mod ChainRecords
+pub mod ZeroObjects

@@ -1,27 +1,21 @@
 -- The list of objects with their lengths says the length of each object.
-use Rattle.std.proofs.Common.{◌≡◌, ◌≢◌, ℕ, zero, suc, ◌+◌, ◌<◌, ◌≤◌, ◌⊎◌, inl, inr, Bool, true, false, cond, List, [], ◌∷◌, ◌++◌, length, map, take, drop, get_or, replicate, Option, Some, None, refl, ap, sym, subst, ◌∙◌, arith, append-nil, append_assoc}
+use Rattle.std.proofs.Common.{◌≡◌, ◌≢◌, ℕ, zero, suc, ◌+◌, ◌<◌, ◌≤◌, ◌⊎◌, inl, inr, Bool, true, false, cond, List, [], ◌∷◌, ◌++◌, length, map, take, drop, get_or, Option, Some, None, refl, ap, sym, subst, ◌∙◌, arith, append-nil, append_assoc}
 use Rattle.std.specs.Prelude.{◌==◌, IfSome, option_map}
 use Rattle.std.specs.Ordering.{nat_cmp}
 use Rattle.std.specs.Cmp.{unsigned_tied}
 use Rattle.std.specs.FinMap as finite
-use Rattle.std.specs.FinMap.{FinMap, find, get-empty, get-entries}
-use Rattle.std.proofs.Math.ListN.{set}
+use Rattle.std.specs.FinMap.{FinMap, find, get-entries}
 use Rattle.std.proofs.lemmas.Bool.{cases_Bool, cases_eq, eq-eqb, eqb-true, ne_eqb}
-use Rattle.std.proofs.lemmas.List.{length-replicate, take_more, take-append-drop}
+use Rattle.std.proofs.lemmas.List.{take_more, take-append-drop}
 use Rattle.base.specs.declared.names.ObjectId.{ObjectId}
 use Rattle.base.specs.formats.Limits.{max_length, object_count}
-use Rattle.base.specs.history.Contents.{Contents}
-use Rattle.base.proofs.history.Objects.{get-stored_other, get-stored_same}
-use Rattle.contents.specs.ContentsShown.{contents_of, objects_of}
-use Rattle.contents.specs.declared.contents.Contents as declared
-use Rattle.contents.specs.declared.contents.Slot.{Slot}
 use Rattle.tree_blocks.specs.ListedObjects.{AreWithin, listed}
 use Rattle.tree_blocks.specs.Sources.{object_length}
 use Rattle.tree_blocks.proofs.ListedObjects.{listed_at, listed_below, listed_below-all}
 use Rattle.trees.specs.EntryLists.{AreRising}
 use Rattle.trees.proofs.EntryLists.{rising_more, rising_push}
-use Rattle.trees.proofs.PutObjects.{objects-set}
-use Rattle.object_views.specs.Listings.{HasListedLengths, length_among, length_at}
+use Rattle.object_views.specs.Zeros.{HasListedLengths, length_among, length_at}
+use Rattle.object_views.specs.declared.zeros.ZeroObjects.{ZeroObjects}
 
 -- a list whose numbers rise ends after each of them
 rising_ends : (start end : ℕ) (list : List (ObjectId × ℕ)) → AreRising start list end → start ≤ end
@@ -58,23 +52,6 @@ among-last (x ∷ list) o none = go (cases_Bool (o.0.0 == x.0.0)) (among-last li
     go (inl same) rest = absurd (let none_here : Some x.1 ≡ None = rw same at none in cc)
     go (inr other) rest = rw other (rest (rw other at none))
 
--- contents without objects have no lengths
-pub none_given : (c : declared.Contents) (name : List ℕ) → contents_of c ≡ record { name = name; objects = finite.empty } → (n : ℕ) → length_at c n ≡ None
-none_given c name none n = ap (λ (d : Contents). option_map length (finite.get d.objects n)) none ∙ ap (option_map length) (get-empty {X = List ℕ} nat_cmp n)
-
--- the slot of an object is set to zeros
-module _ (slots : List Slot) (n : ℕ) (s : Slot) (low : n < length slots) (present : s.present ≡ true) where
-  pub length_set : (size : ℕ) → s.bytes.value ≡ replicate size 0 → object_length (objects_of (set slots n s)) n ≡ Some size
-  length_set size zeros =
-      ap (λ (m : FinMap nat_cmp (List ℕ)). object_length m n) (objects-set slots n s low present)
-      ∙ ap (option_map length) (get-stored_same (objects_of slots) n (Some s.bytes.value))
-      ∙ ap (λ (k : ℕ). Some k) (ap (λ (l : List ℕ). length l) zeros ∙ length-replicate size 0)
-
-  pub length_left : (q : ℕ) → q ≢ n → object_length (objects_of (set slots n s)) q ≡ object_length (objects_of slots) q
-  length_left q other =
-      ap (λ (m : FinMap nat_cmp (List ℕ)). object_length m q) (objects-set slots n s low present)
-      ∙ ap (option_map length) (get-stored_other (objects_of slots) n (Some s.bytes.value) q other)
-
 -- one object more, whose length is set
 module _ (objects : List (ObjectId × ℕ)) (i : ℕ) (default : ObjectId × ℕ) (low : i < length objects) where
   abbrev item : ObjectId × ℕ
@@ -94,7 +71,7 @@ module _ (objects : List (ObjectId × ℕ)) (i : ℕ) (default : ObjectId × ℕ
     pub in_range : item.0.0 < object_count
     in_range = below_end object_count item (drop (i + 1) objects) 0 (take i objects) apart
 
-    pub lengths_more : (old new : declared.Contents) → HasListedLengths (take i objects) old → length_at new item.0.0 ≡ Some item.1 → ((n : ℕ) → n ≢ item.0.0 → length_at new n ≡ length_at old n)
+    pub lengths_more : (old new : ZeroObjects) → HasListedLengths (take i objects) old → length_at new item.0.0 ≡ Some item.1 → ((n : ℕ) → n ≢ item.0.0 → length_at new n ≡ length_at old n)
         → HasListedLengths (take (i + 1) objects) new
     lengths_more old new before here others n = go (cases_eq n item.0.0) ∙ ap (λ (l : List (ObjectId × ℕ)). length_among l n) (sym front)
       where

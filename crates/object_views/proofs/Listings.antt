@@ -21,8 +21,7 @@ use Rattle.base.specs.tree.Tree.{IsTree}
 use Rattle.base.proofs.crash.OneMount.{one-active, one-name}
 use Rattle.device_model.specs.declared.device.SectorDevice.{Ghosts}
 use Rattle.object_maps.specs.BlockReads.{IsLoadRefusal}
-use Rattle.contents.specs.ContentsShown.{contents_of}
-use Rattle.contents.specs.declared.contents.Contents as declared
+use Rattle.contents.specs.Judging.{with_name}
 use Rattle.extents.specs.declared.extents.Extents.{Extents}
 use Rattle.extents.specs.Patches.{laid_over}
 use Rattle.extents.specs.Tables.{name_of, patches_of}
@@ -34,7 +33,9 @@ use Rattle.tree_blocks.specs.ListedObjects.{AreWithin, listed}
 use Rattle.trees.specs.EntryLists.{AreRising, AreSoundAbove, ListsEntries, TellsDirectory, TellsFirstAbove}
 use Rattle.inspections.specs.PoolDamages.{IsOfNoDamage}
 use Rattle.object_views.proofs.ChainRecords.{counted-above}
-use Rattle.object_views.specs.Listings.{HasEntries, HasListedLengths, IsListingOf, IsListingOfMount, IsListingRefused, IsOfLengths, IsRecordDamage, IsRefusedOn, IsReplayedOn, ListsContents, TellsListingDamage, length_among, records_of}
+use Rattle.object_views.specs.Listings.{HasEntries, IsListingOf, IsListingOfMount, IsListingRefused, IsOfLengths, IsRecordDamage, IsRefusedOn, IsReplayedOn, ListsContents, TellsListingDamage, records_of}
+use Rattle.object_views.specs.Zeros.{HasListedLengths, length_among}
+use Rattle.object_views.specs.declared.zeros.ZeroObjects.{ZeroObjects}
 use Rattle.object_views.specs.PoolPaths.{ArePathsOf, IsFindingRefused, IsPathsRefusal, uberblock_of}
 use Rattle.object_views.specs.declared.listing.ListedPool.{ListedPool}
 use Rattle.object_views.specs.declared.paths.PoolPaths.{PoolPaths}
@@ -44,38 +45,41 @@ use Rattle.object_views.proofs.ListedLengths.{among-listed, listed-same, listed_
 use Rattle.object_views.proofs.ObjectViews.{mine, same_chain, sound_place}
 
 -- the records of a chain, on contents with the name of the paths and the lengths of a list
-module _ (p : PoolPaths) (entries : List (ObjectId × ℕ)) (rising : AreRising 0 entries object_count) (zeros : declared.Contents) (named : zeros.name ≡ p.found.name) (has : HasListedLengths entries zeros) where
+module _ (p : PoolPaths) (entries : List (ObjectId × ℕ)) (rising : AreRising 0 entries object_count) (zeros : ZeroObjects) (has : HasListedLengths entries zeros) where
+  abbrev given : Contents
+  given = with_name zeros.told.value p.found.name
+
   lengths_given : (c : Contents) → IsOfLengths p.found.name entries c → (n : ℕ) → length_of c n ≡ length_among entries n
   lengths_given c is n = sym (among-listed c.objects n) ∙ ap (λ (l : List (ObjectId × ℕ)). length_among l n) is.objects_are
 
-  alike : (c : Contents) → IsOfLengths p.found.name entries c → AreAlike (contents_of zeros) c
-  alike c is = record { name_is = named ∙ sym is.name_is; lengths = λ n. has n ∙ sym (lengths_given c is n) }
+  alike : (c : Contents) → IsOfLengths p.found.name entries c → AreAlike given c
+  alike c is = record { name_is = sym is.name_is; lengths = λ n. has n ∙ sym (lengths_given c is n) }
 
   -- take place on all contents of these lengths
-  module _ (changes : Extents) (count : ℕ) (are : AreChangesOf (records_of p) (contents_of zeros) (changes, count)) (list : List (ObjectId × ℕ))
-      (lists : AreWithin (laid_over (patches_of changes) (contents_of zeros).objects) → list ≡ listed (laid_over (patches_of changes) (contents_of zeros).objects)) where
-    within : AreWithin (laid_over (patches_of changes) (contents_of zeros).objects)
-    within = (stay_within changes).1 (contents_of zeros).objects (listed_within (contents_of zeros).objects entries rising has)
+  module _ (changes : Extents) (count : ℕ) (are : AreChangesOf (records_of p) given (changes, count)) (list : List (ObjectId × ℕ))
+      (lists : AreWithin (laid_over (patches_of changes) given.objects) → list ≡ listed (laid_over (patches_of changes) given.objects)) where
+    within : AreWithin (laid_over (patches_of changes) given.objects)
+    within = (stay_within changes).1 given.objects (listed_within given.objects entries rising has)
 
     pub list_rises : AreRising 0 list object_count
-    list_rises = subst (λ (l : List (ObjectId × ℕ)). AreRising 0 l object_count) (sym (lists within)) (listed_rises (laid_over (patches_of changes) (contents_of zeros).objects) within)
+    list_rises = subst (λ (l : List (ObjectId × ℕ)). AreRising 0 l object_count) (sym (lists within)) (listed_rises (laid_over (patches_of changes) given.objects) within)
 
-    pub led : (l : ListedPool) → l.name ≡ unwrap_or (name_of changes) zeros.name → l.objects.items ≡ list → (synced : Contents) → IsOfLengths p.found.name entries synced
+    pub led : (l : ListedPool) → l.name ≡ unwrap_or (name_of changes) p.found.name → l.objects.items ≡ list → (synced : Contents) → IsOfLengths p.found.name entries synced
         → (now : Contents) × (apply_records (records_of p) synced ≡ Ok now) × ListsContents l now
     led l named_so are_so synced is =
-        let (now, reaches, same) = alike_led (records_of p) (contents_of zeros) synced (with_changes changes (contents_of zeros)) (alike synced is) are.1 in (
+        let (now, reaches, same) = alike_led (records_of p) given synced (with_changes changes given) (alike synced is) are.1 in (
           now,
           reaches,
           record {
             name_is = named_so ∙ same.name_is;
-            objects_are = are_so ∙ lists within ∙ listed-same (laid_over (patches_of changes) (contents_of zeros).objects) now.objects same.lengths within;
+            objects_are = are_so ∙ lists within ∙ listed-same (laid_over (patches_of changes) given.objects) now.objects same.lengths within;
           },
         )
 
   -- or one of them can't on any
-  pub stopped : (e : PoolError) → IsReplayRefusal (records_of p) (contents_of zeros) e → IsRefusedOn p entries e
+  pub stopped : (e : PoolError) → IsReplayRefusal (records_of p) given e → IsRefusedOn p entries e
   stopped e (inl none) = inl none
-  stopped e (inr (address, is, refused)) = inr (address, is, λ synced of. alike_refused (records_of p) (contents_of zeros) synced address (alike synced of) refused)
+  stopped e (inr (address, is, refused)) = inr (address, is, λ synced of. alike_refused (records_of p) given synced address (alike synced of) refused)
 
 -- what the directories of an image have
 pub has_entries : (image : List ℕ) (u : Uberblock) (frame : Frame) (entries : List (ObjectId × ℕ)) → frame ≡ frame_of image u → AreSoundAbove image frame u.root → ListsEntries image u.root entries

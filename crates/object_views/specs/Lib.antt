@@ -4,3 +4,5 @@ pub mod ObjectViews
 pub mod PoolPaths
 pub mod Listings
 pub mod ReadPaths
+pub mod Zeros
+pub mod PoolNames

@@ -1,5 +1,5 @@
 -- What a list of a pool's objects has, by the labels, the log chain, the root and the directories alone.
-use Rattle.std.specs.Prelude.{ℕ, ◌≡◌, ◌⊎◌, ◌==◌, IsTrue, List, [], ◌∷◌, length, Ok, Option, None, Some, if◌then◌else◌}
+use Rattle.std.specs.Prelude.{ℕ, ◌≡◌, ◌⊎◌, IsTrue, List, length, Ok}
 use Rattle.base.specs.declared.error.PoolError.{PoolError}
 use Rattle.base.specs.declared.error.PoolError.TheVariants.{BadGeometry, Damaged, NoMemory, NoPool}
 use Rattle.base.specs.declared.names.ObjectId.{ObjectId}
@@ -13,9 +13,6 @@ use Rattle.base.specs.tree.Mount.{HasNoPool, HasPool, IsChainOf, Mount, Placed, 
 use Rattle.device_model.specs.declared.device.SectorDevice.{Ghosts}
 use Rattle.log_replay.specs.AddedRecords.{counted_up_to_last}
 use Rattle.log_replay.specs.Replays.{IsRecordRefused}
-use Rattle.contents.specs.ContentsShown.{contents_of}
-use Rattle.tree_blocks.specs.Sources.{object_length}
-use Rattle.contents.specs.declared.contents.Contents as declared
 use Rattle.tree_blocks.specs.ListedObjects.{listed}
 use Rattle.trees.specs.EntryLists.{AreRising, AreSoundAbove, ListsEntries, TellsFirstAbove}
 use Rattle.inspections.specs.Refused.{IsInspectionRefusal}
@@ -90,19 +87,6 @@ pub record IsListingRefused {Dev : Type 0} (D : Ghosts Dev) (old new : Dev) (e :
   pub no_pool : IsTrue D.keeps_model → e ≡ NoPool → HasNoPool (bytes_of (D.disk old).now)
   pub damaged : IsTrue D.keeps_model → (kind address : ℕ) → e ≡ Damaged kind address → TellsListingDamage (bytes_of (D.disk old).now) e kind address
   pub untouched : e ≡ BadGeometry → new ≡ old
-
--- the length that a list gives object n, if it has it
-abbrev pub length_among : List (ObjectId × ℕ) → ℕ → Option ℕ
-length_among [] n = None
-length_among (o ∷ others) n = if n == o.0.0 then Some o.1 else length_among others n
-
--- the length of object n of contents
-abbrev pub length_at : declared.Contents → ℕ → Option ℕ
-length_at c n = object_length (contents_of c).objects n
-
--- contents have objects of these lengths, and no other
-abbrev pub HasListedLengths : List (ObjectId × ℕ) → declared.Contents → Type 0
-HasListedLengths entries c = (n : ℕ) → length_at c n ≡ length_among entries n
 
 -- the records that an import by these paths would apply
 abbrev pub records_of : PoolPaths → List Placed

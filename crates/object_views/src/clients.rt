@@ -3,7 +3,7 @@
 
 mod stored;
 
-ghost use Rattle.std.specs.Prelude.{◌≡◌, ◌≢◌, ◌∷◌, [], ℕ, List, Some, false, IfErr, IfOk, IsTrue};
+ghost use Rattle.std.specs.Prelude.{◌≡◌, ◌≢◌, ◌∷◌, [], ℕ, List, Some, codes, false, IfErr, IfOk, IsTrue};
 ghost use Rattle.std.specs.FinMap as finite;
 ghost use Rattle.base.specs.declared.error.PoolError.TheVariants.{Damaged};
 ghost use Rattle.base.specs.disk.Disk.{bytes_of};
@@ -21,7 +21,7 @@ ghost use Rattle.object_views.specs.ObjectViews.{FitsOn, IsObjectViewOf, is_own,
 use crate::listing::{ListedPool, list_pool};
 use crate::paths::find_paths;
 use crate::view::{ObjectView, view_object};
-use base::{Bytes, ObjectId, PoolError, Range};
+use base::{Bytes, ObjectId, PoolError, PoolName, Range};
 use device_model::SectorDevice;
 use std::alloc::Global;
 
@@ -86,6 +86,19 @@ fn paths_show_what_the_image_mounts<D: SectorDevice>(
     let paths = find_paths(alloc, device)?;
     let view = paths.view(alloc, device, ObjectId(7))?;
     view.read(device, alloc, Range { low: 1, high: 3 })
+}
+
+// A pool that is mounted has the name that its paths say.
+fn paths_have_the_name_that_the_image_mounts<D: SectorDevice>(
+    alloc: Global,
+    device: &mut D,
+) -> Result<PoolName, PoolError>
+    ensures { IsTrue D.keeps_model → (contents : Contents)
+        → MountsTo (bytes_of (D.disk device.old).now) contents → contents.name ≡ codes "tank"
+        → IfOk result (λ name. name ≡ codes "tank") }
+{
+    let paths = find_paths(alloc, device)?;
+    Ok(paths.name())
 }
 
 // A list has the objects of what the image mounts, each with its length.

@@ -15,6 +15,7 @@ mod path_blocks;
 mod paths;
 mod stored_object;
 mod view;
+mod zeros;
 
 pub use laws::own_operations_suffice;
 pub use listing::{ListedPool, list_pool};

@@ -3,7 +3,7 @@
 //! Of the tree the root and the directories are read, so no damage below them is found. The log records that an import
 //! would apply are replayed on objects of zeros, of the lengths that the directories have.
 
-ghost use Rattle.std.specs.Prelude.{◌≡◌, ◌≢◌, ◌<◌, ℕ, IfErr, IfOk, IsTrue, Some};
+ghost use Rattle.std.specs.Prelude.{IfErr, IfOk, IsTrue};
 ghost use Rattle.base.specs.disk.Disk.{bytes_of};
 ghost use Rattle.base.specs.formats.Limits.{object_count};
 ghost use Rattle.base.specs.history.Contents.{Contents as MountedContents};
@@ -11,17 +11,17 @@ ghost use Rattle.base.specs.tree.Mount.{IsMounted, Mount, MountsTo};
 ghost use Rattle.device_model.specs.Reading.{OnlyReads};
 ghost use Rattle.trees.specs.EntryLists.{AreRising};
 ghost use Rattle.inspections.specs.PoolDamages.{IsOfNoDamage};
-ghost use Rattle.object_views.specs.Listings.{HasListedLengths, IsListingOf, IsListingOfMount, IsListingRefused, ListsContents, length_at};
+ghost use Rattle.object_views.specs.Listings.{IsListingOf, IsListingOfMount, IsListingRefused, ListsContents};
 
 use crate::paths::{PoolPaths, find_paths};
+use crate::zeros::ZeroObjects;
 use base::{Group, ObjectId, PoolError, PoolName};
-use contents::{Contents, Slot, zero_bytes};
 use device_model::SectorDevice;
 use extents::Laid;
 use import_replay::frame_of;
 use inspections::list_objects;
 use log_replay::changes_of;
-use std::alloc::{AllocError, Global};
+use std::alloc::Global;
 use trees::list_entries;
 
 /// What the labels, the log chain, the root and the directories say of a pool that an import would mount.
@@ -139,9 +139,9 @@ impl PoolPaths {
         ensures refused { IfErr result (IsRefusedOn self.now entries.now) }
     {
         let uberblock = &self.found.uberblock;
-        let contents = zeros_of(alloc, &self.found.name, entries)?;
-        let (changes, records) = changes_of(alloc, uberblock.group, &contents, &self.logged)?;
-        let objects = list_objects(alloc, &Laid::new(&changes, &contents))?;
+        let zeros = ZeroObjects::of(alloc, entries)?;
+        let (changes, records) = changes_of(alloc, uberblock.group, &zeros, &self.logged)?;
+        let objects = list_objects(alloc, &Laid::new(&changes, &zeros))?;
         let blocks = self.geometry.blocks();
         Ok(ListedPool {
             guid: uberblock.guid,
@@ -149,38 +149,8 @@ impl PoolPaths {
             import_number: uberblock.import_number,
             blocks,
             records,
-            name: changes.name_over(&contents.name).copy(),
+            name: changes.name_over(&self.found.name).copy(),
             objects,
         })
     }
-}
-
-// The contents with this name, and with objects of zeros of these lengths.
-fn zeros_of(
-    alloc: Global,
-    name: &PoolName,
-    objects: &[(ObjectId, u64)],
-) -> Result<Contents, AllocError>
-    requires { AreRising 0 objects.now object_count }
-    ensures name { IfOk result (λ c. c.name ≡ name.now) }
-    ensures lengths { IfOk result (HasListedLengths objects.now) }
-{
-    let mut contents = Contents::new(alloc, name.copy())?;
-    for object in objects {
-        set_length(&mut contents, object.0, object.1);
-    }
-    Ok(contents)
-}
-
-fn set_length(contents: &mut Contents, object: ObjectId, length: u64)
-    requires { object.0 < object_count }
-    ensures name { contents.new.name ≡ contents.old.name }
-    ensures length { length_at contents.new object.0 ≡ Some length }
-    ensures others { (n : ℕ) → n ≢ object.0 → length_at contents.new n ≡ length_at contents.old n }
-{
-    contents.slots[object.0 as usize] = Slot {
-        present: true,
-        size: length,
-        bytes: zero_bytes(length),
-    };
 }

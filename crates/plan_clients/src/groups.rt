@@ -6,15 +6,13 @@ ghost use Rattle.base.specs.common.Rising.{rising};
 ghost use Rattle.base.specs.formats.Geometry.{block_address, block_count};
 ghost use Rattle.base.specs.disk.Disk.{bytes_of};
 ghost use Rattle.base.specs.kept.PlacedTrees.{ArePlaced};
-ghost use Rattle.contents.specs.ContentsShown.{contents_of};
 ghost use Rattle.tree_blocks.specs.Pointers.{pointers_of};
 ghost use Rattle.tree_plans.specs.Plans.{AreApart, address_of};
 ghost use Rattle.tree_plans.specs.Pointers.{entry_of};
-ghost use Rattle.group_plans.specs.OldMaps.{HoldsTreeOf};
+ghost use Rattle.group_plans.specs.OldMaps.{HoldsOwn};
 
 use base::PoolError;
 use checked_blocks::Frame;
-use contents::Contents;
 use extents::Extents;
 use group_plans::{GroupSource, plan_group};
 use object_maps::BlockReader;
@@ -28,7 +26,6 @@ fn a_group_takes_the_lowest_free_blocks<B: BlockReader>(
     source: &GroupSource<'_>,
     records: &[Record],
     extents: &Extents,
-    contents: &Contents,
 ) -> Result<TreePlan, PoolError>
     requires room { block_address before.now.blocks ≤ B.size reader.old }
     requires area { before.now.blocks ≡ block_count source.now.geometry }
@@ -39,7 +36,7 @@ fn a_group_takes_the_lowest_free_blocks<B: BlockReader>(
     ensures { IfOk result (λ p. length p.blocks.items ≡ 2
         → map address_of p.blocks.items ≡ 4194304 ∷ 4198400 ∷ []) }
 {
-    plan_group(reader, before, source, records, extents, contents)
+    plan_group(reader, before, source, records, extents)
 }
 
 // The blocks of a tree that the device holds are whole: a plan finds none that is damaged.
@@ -49,7 +46,6 @@ fn a_plan_over_a_tree_that_is_held_finds_no_damage<B: BlockReader>(
     source: &GroupSource<'_>,
     records: &[Record],
     extents: &Extents,
-    contents: &Contents,
 ) -> Result<TreePlan, PoolError>
     requires room { block_address before.now.blocks ≤ B.size reader.old }
     requires area { before.now.blocks ≡ block_count source.now.geometry }
@@ -57,11 +53,10 @@ fn a_plan_over_a_tree_that_is_held_finds_no_damage<B: BlockReader>(
     requires placed { ∥ ArePlaced (block_count source.now.geometry)
         (pointers_of source.now.tree.now) ∥₁ }
     requires keeps { IsTrue B.keeps_model }
-    requires held { HoldsTreeOf (bytes_of (B.disk reader.old).now) before.now
-        source.now.tree.now (contents_of contents.now).objects }
+    requires held { HoldsOwn (bytes_of (B.disk reader.old).now) before.now source.now.tree.now }
     ensures { IfErr result (λ e. (kind address : ℕ) → e ≢ error.Damaged kind address) }
 {
-    plan_group(reader, before, source, records, extents, contents)
+    plan_group(reader, before, source, records, extents)
 }
 
 // A group without records leaves the root and writes nothing, whatever the device holds.
@@ -71,7 +66,6 @@ fn a_group_without_records_leaves_the_root<B: BlockReader>(
     source: &GroupSource<'_>,
     records: &[Record],
     extents: &Extents,
-    contents: &Contents,
 ) -> Result<TreePlan, PoolError>
     requires room { block_address before.now.blocks ≤ B.size reader.old }
     requires area { before.now.blocks ≡ block_count source.now.geometry }
@@ -82,7 +76,7 @@ fn a_group_without_records_leaves_the_root<B: BlockReader>(
     ensures { IfOk result (λ p. (p.root ≡ source.now.tree.now.root)
         × (length p.blocks.items ≡ 0)) }
 {
-    plan_group(reader, before, source, records, extents, contents)
+    plan_group(reader, before, source, records, extents)
 }
 
 // A plan writes nothing: the disk is as it was.
@@ -92,7 +86,6 @@ fn a_plan_leaves_the_disk<B: BlockReader>(
     source: &GroupSource<'_>,
     records: &[Record],
     extents: &Extents,
-    contents: &Contents,
 ) -> Result<TreePlan, PoolError>
     requires room { block_address before.now.blocks ≤ B.size reader.old }
     requires area { before.now.blocks ≡ block_count source.now.geometry }
@@ -102,7 +95,7 @@ fn a_plan_leaves_the_disk<B: BlockReader>(
     requires keeps { IsTrue B.keeps_model }
     ensures { B.disk reader.new ≡ B.disk reader.old }
 {
-    plan_group(reader, before, source, records, extents, contents)
+    plan_group(reader, before, source, records, extents)
 }
 
 // A tree has no object 5,292: a plan has no entry for it.
@@ -112,7 +105,6 @@ fn a_plan_has_entries_of_objects_alone<B: BlockReader>(
     source: &GroupSource<'_>,
     records: &[Record],
     extents: &Extents,
-    contents: &Contents,
 ) -> Result<TreePlan, PoolError>
     requires room { block_address before.now.blocks ≤ B.size reader.old }
     requires area { before.now.blocks ≡ block_count source.now.geometry }
@@ -121,7 +113,7 @@ fn a_plan_has_entries_of_objects_alone<B: BlockReader>(
         (pointers_of source.now.tree.now) ∥₁ }
     ensures { IfOk result (λ p. entry_of p.entries.entries 5292 ≡ None) }
 {
-    plan_group(reader, before, source, records, extents, contents)
+    plan_group(reader, before, source, records, extents)
 }
 
 // If no two places of a tree that the device holds have blocks at one address, none comes back first and second.
@@ -131,7 +123,6 @@ fn a_group_gives_no_block_back_twice<B: BlockReader>(
     source: &GroupSource<'_>,
     records: &[Record],
     extents: &Extents,
-    contents: &Contents,
 ) -> Result<TreePlan, PoolError>
     requires room { block_address before.now.blocks ≤ B.size reader.old }
     requires area { before.now.blocks ≡ block_count source.now.geometry }
@@ -139,11 +130,10 @@ fn a_group_gives_no_block_back_twice<B: BlockReader>(
     requires placed { ∥ ArePlaced (block_count source.now.geometry)
         (pointers_of source.now.tree.now) ∥₁ }
     requires keeps { IsTrue B.keeps_model }
-    requires held { HoldsTreeOf (bytes_of (B.disk reader.old).now) before.now
-        source.now.tree.now (contents_of contents.now).objects }
+    requires held { HoldsOwn (bytes_of (B.disk reader.old).now) before.now source.now.tree.now }
     requires apart { AreApart (pointers_of source.now.tree.now) }
     ensures { IfOk result (λ p. slice_get p.freed.items 0 ≡ Some 4194304
         → slice_get p.freed.items 1 ≢ Some 4194304) }
 {
-    plan_group(reader, before, source, records, extents, contents)
+    plan_group(reader, before, source, records, extents)
 }

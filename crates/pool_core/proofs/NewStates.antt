@@ -37,7 +37,7 @@ module _ (now : List ℕ) (created : ℕ) (m : Mounted) (sized : block_count m.g
   next_alone address (inl same) = same
   next_alone address (inr (i, b, at, is)) = absurd (none_at i b at)
 
-  stored : IsStored now (shown_of_import m) (pointers_of m.tree) (new_past (contents_of m.contents) created m.dirty_max)
+  stored : IsStored now (shown_of_import m) (pointers_of m.contents.tree) (new_past (contents_of m.contents) created m.dirty_max)
   stored = record {
     synced = contents_of m.contents;
     replayed = refl;
@@ -54,7 +54,7 @@ module _ (now : List ℕ) (created : ℕ) (m : Mounted) (sized : block_count m.g
   is_held : IsHeld (record {
     state = record { shown = shown_of_import m; past = new_past (contents_of m.contents) created m.dirty_max };
     now = now;
-    pointers = pointers_of m.tree;
+    pointers = pointers_of m.contents.tree;
     running = None;
   })
   is_held = record { explained = explained created; kept = record { stored = stored; sync = refl; geometry = shows.geometry; labels = shows.labels created; configs = shows.configs created } }
@@ -78,10 +78,10 @@ pub explained_as : (m : Mounted) (shown : Shown) → shown ≡ shown_of_import m
 explained_as m shown is explained = subst IsExplainedAtFirst (sym is) explained
 
 -- And where it has the tree and no running sync, the device holds what it should.
-pub held_as : (m : Mounted) (pool : PoolTables) (now : List ℕ) → pool_shown pool ≡ shown_of_import m → pool.tree ≡ m.tree → pool.sync ≡ None
+pub held_as : (m : Mounted) (pool : PoolTables) (now : List ℕ) → pool_shown pool ≡ shown_of_import m → pool.synced.tree ≡ m.contents.tree → pool.sync ≡ None
     → block_count m.geometry ≡ block_count (length now) → StandsOnDevice now m → LabelsShow now m → IsExplainedAnew m → IsHeldAtFirst (pool_told pool now)
 held_as m pool now shown tree idle sized on shows explained created =
     let same : held_with (pool_told pool now) (first_past (pool_shown pool) created)
-    ≡ record { state = record { shown = shown_of_import m; past = new_past (contents_of m.contents) created m.dirty_max }; now = now; pointers = pointers_of m.tree; running = None } = λ k.
-    record { state = record { shown = shown k; past = first_past (shown k) created }; now = now; pointers = pointers_of (tree k); running = option_map (new_tree_of pool.tree) (idle k) } in
+    ≡ record { state = record { shown = shown_of_import m; past = new_past (contents_of m.contents) created m.dirty_max }; now = now; pointers = pointers_of m.contents.tree; running = None } = λ k.
+    record { state = record { shown = shown k; past = first_past (shown k) created }; now = now; pointers = pointers_of (tree k); running = option_map (new_tree_of pool.synced.tree) (idle k) } in
     subst IsHeld (sym same) (is_held now created m sized on shows explained)

@@ -82,8 +82,8 @@ module _ {Dev : Type 0} {G : Ghosts Dev} (old new : PoolState Dev G) where
   read_replied make answer given quiet is tables disk =
       stays_replied make answer given quiet is (
         ap (λ (d : Disk). bytes_of d.now) disk,
-        ap (λ (p : PoolTables). pointers_of p.tree) tables,
-        ap (λ (p : PoolTables). option_map (new_tree_of p.tree) p.sync) tables,
+        ap (λ (p : PoolTables). pointers_of p.synced.tree) tables,
+        ap (λ (p : PoolTables). option_map (new_tree_of p.synced.tree) p.sync) tables,
       )
 
   -- a step that only reads counts the call that was refused

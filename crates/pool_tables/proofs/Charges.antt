@@ -69,7 +69,7 @@ module _ (p : PoolTables) where
 
   -- what is available is what the free set says
   pub available_told : available_in p.free ≡ available (pool_shown p)
-  available_told k = available_of (free_count (pool_shown p)) ((p.free_counted.reserved ∙ sym pool_totals.reserved) k) ((p.free_counted.taken ∙ sym (length-taken p.tree (contents_after_oldest p) p.sync)) k)
+  available_told k = available_of (free_count (pool_shown p)) ((p.free_counted.reserved ∙ sym pool_totals.reserved) k) ((p.free_counted.taken ∙ sym (length-taken p.synced.tree (contents_after_oldest p) p.sync)) k)
 
   -- where a plan's blocks are available they may be reserved
   pub enough_free : (plan : List Shape) (count : ℕ) → count ≡ estimate_of plan → nat_lt (available (pool_shown p)) (blocks_wanted (pool_shown p).contents plan) ≡ false → is_short count 0 p.free ≡ true → ⊥

@@ -15,18 +15,16 @@ use Rattle.base.specs.steps.Shown.{Shown}
 use Rattle.base.specs.steps.Steps.{Digest, Read, State, bytes_in}
 use Rattle.base.specs.kept.Stored.{IsHeld, frame_at}
 use Rattle.base.proofs.formats.Geometry.{blocks-end}
-use Rattle.base.proofs.steps.ListedLengths.{listed_lengths_are}
 use Rattle.base.proofs.common.Choices.{some_there, none_there}
 use Rattle.device_model.specs.declared.device.SectorDevice.{Ghosts}
 use Rattle.object_maps.specs.Cached.{IsReadRefusal}
-use Rattle.tree_blocks.specs.Lengths.{lengths_of}
 use Rattle.tree_blocks.specs.Pointers.{pointers_of}
 use Rattle.object_reads.specs.declared.shown_tree.ShownTree.{ShownTree}
 use Rattle.object_reads.specs.ShownTrees as reads
 use Rattle.object_reads.specs.ShownTrees.{IsRangeRefusal, IsRangeRefusalOnTree, StandsOn}
 use Rattle.pool_tables.specs.declared.pool.PoolTables.{PoolTables}
 use Rattle.pool_tables.specs.GroupPlans.{HoldsSyncedTree}
-use Rattle.pool_tables.specs.Shows.{pool_objects, pool_shown, synced_of}
+use Rattle.pool_tables.specs.Shows.{pool_objects, pool_shown}
 use Rattle.pool_tables.specs.Told.{held_with, pool_told}
 use Rattle.pool_tables.proofs.ReadSteps.{is_unreadable}
 use Rattle.pool_tables.proofs.syncs.PlannedGroups.{synced_tree}
@@ -99,18 +97,15 @@ suspended_first is = cc
 pub area_fits : (geometry size : ℕ) → IsGeometry geometry → size ≡ geometry → block_address (block_count geometry) ≤ size
 area_fits geometry size sized is = let end = blocks-end geometry sized in omega (arith, end, is)
 
--- a device that holds a pool has its synced tree, with the lengths of the synced objects
+-- a device that holds a pool has its synced tree
 pub tree_held : (now : List ℕ) (past : Past) (p : PoolTables) → IsHeld (held_with (pool_told p now) past) → HoldsSyncedTree p now
-tree_held now past p x = record {
-  held = synced_tree now (pool_shown p) past (pointers_of p.tree) x.kept.stored x.explained;
-  lengths = listed_lengths_are (synced_of p) (lengths_of p.tree) x.explained.trees.synced.lengths;
-}
+tree_held now past p x = synced_tree now (pool_shown p) past (pointers_of p.synced.tree) x.kept.stored x.explained
 
 -- what a pool hands its reads
-module _ (p : PoolTables) (t : ShownTree) (framed : t.frame ≡ frame_at (pool_shown p) (pool_shown p).line.synced) (tree : t.tree.now ≡ p.tree) (contents : t.contents.now ≡ p.synced)
+module _ (p : PoolTables) (t : ShownTree) (framed : t.frame ≡ frame_at (pool_shown p) (pool_shown p).line.synced) (tree : t.tree.now ≡ p.synced.tree)
     (changes : t.changes.now ≡ p.changes) where
   pub objects_are : reads.shown_objects t ≡ pool_objects p
-  objects_are = rw (contents, changes) refl
+  objects_are = rw (tree, changes) refl
 
   pub tree_fits : IsGeometry p.geometry → (size : ℕ) → size ≡ p.geometry → block_address t.frame.blocks ≤ size
   tree_fits sized size is = rw framed (area_fits p.geometry size sized is)
@@ -122,6 +117,5 @@ module _ (p : PoolTables) (t : ShownTree) (framed : t.frame ≡ frame_at (pool_s
       let held = tree_held (bytes_of (D.disk device).now) past p h in
       record {
         keeps = keeps;
-        tree = rw (framed, tree, contents) held.held;
-        lengths = rw (tree, contents) held.lengths;
+        tree = rw (framed, tree) held;
       }

@@ -113,23 +113,23 @@ module _ (pool : PoolTables) (group : ℕ) (hold : 0 < holds_of pool.groups grou
 -- a running sync has the same plan where the changes of its group stay
 pub same_plan : (pool : PoolTables) (new : UnsyncedExtents)
     → ((r : RunningSync) → pool.sync ≡ Some r → (changes_at new 0 ≡ changes_at pool.changes 0) × (name_at new 0 ≡ name_at pool.changes 0))
-    → option_map (plan_of pool.tree (patched_contents (changes_at new 0) (name_at new 0) (synced_of pool))) pool.sync ≡ option_map (plan_of pool.tree (contents_after_oldest pool)) pool.sync
+    → option_map (plan_of pool.synced.tree (patched_contents (changes_at new 0) (name_at new 0) (synced_of pool))) pool.sync ≡ option_map (plan_of pool.synced.tree (contents_after_oldest pool)) pool.sync
 same_plan pool new same = go pool.sync (λ r is. same r is)
   where
     go : (o : Option RunningSync) → ((r : RunningSync) → o ≡ Some r → (changes_at new 0 ≡ changes_at pool.changes 0) × (name_at new 0 ≡ name_at pool.changes 0))
-        → option_map (plan_of pool.tree (patched_contents (changes_at new 0) (name_at new 0) (synced_of pool))) o ≡ option_map (plan_of pool.tree (contents_after_oldest pool)) o
+        → option_map (plan_of pool.synced.tree (patched_contents (changes_at new 0) (name_at new 0) (synced_of pool))) o ≡ option_map (plan_of pool.synced.tree (contents_after_oldest pool)) o
     go None kept = refl
-    go (Some r) kept = let both = kept r refl in λ k. Some (plan_of pool.tree (patched_contents (both.0 k) (both.1 k) (synced_of pool)) r)
+    go (Some r) kept = let both = kept r refl in λ k. Some (plan_of pool.synced.tree (patched_contents (both.0 k) (both.1 k) (synced_of pool)) r)
 
 -- changes that say the same are the same at each place
-same_changes : (old new : UnsyncedExtents) → LeavesChanges old new → (place : ℕ) → changes_at new place ≡ changes_at old place
+pub same_changes : (old new : UnsyncedExtents) → LeavesChanges old new → (place : ℕ) → changes_at new place ≡ changes_at old place
 same_changes old new same place = λ k n. record { basis = (same.patches place n).basis k; written = λ i. (same.patches place n).written i k }
 
 -- so a pool shows the same with them, and with the same pending transactions
 pub shown_left : (pool : PoolTables) (new : UnsyncedExtents) (log : RunLog) → LeavesChanges pool.changes new → log_shown log ≡ log_shown pool.log → record (pool_shown pool) {
   contents = record { name = name_over new pool.synced.name; objects = laid_all new (synced_of pool).objects };
   log = log_shown log;
-  sync = option_map (plan_of pool.tree (patched_contents (changes_at new 0) (name_at new 0) (synced_of pool))) pool.sync;
+  sync = option_map (plan_of pool.synced.tree (patched_contents (changes_at new 0) (name_at new 0) (synced_of pool))) pool.sync;
 } ≡ pool_shown pool
 shown_left pool new log same is =
     let at : (place : ℕ) → changes_at new place ≡ changes_at pool.changes place = same_changes pool.changes new same in

@@ -22,7 +22,7 @@ use Rattle.extents.proofs.LaidObjects.{laid_nothing}
 use Rattle.extents.proofs.LaidWithin.{stay_within}
 use Rattle.extents.proofs.PatchedObjects.{patched_nothing}
 use Rattle.unsynced_extents.proofs.UnsyncedGroups.{oldest_is_laid, oldest_name_is_laid}
-use Rattle.contents.specs.declared.contents.Contents as declared
+use Rattle.contents.specs.declared.synced_tree.SyncedTree.{SyncedTree}
 use Rattle.contents.specs.ContentsShown.{contents_of}
 use Rattle.contents.specs.Judging.{with_name}
 use Rattle.tree_blocks.specs.ListedObjects.{AreWithin}
@@ -36,7 +36,7 @@ stay_open : (before after : ℕ) (pending : List Record) → before ≤ after �
 stay_open before after pending later = All-weaker (λ (c : Record). c.group.0 ≤ before) (λ (c : Record). c.group.0 ≤ after) (λ c up_to. omega (arith, later, up_to)) pending
 
 -- so all stays where the line moves on with the same synced group
-pub moved_on : (old new : Line) (unsynced : List Record) (synced : declared.Contents) (changes : UnsyncedExtents) → (new.synced ≡ old.synced) × (old.open_group ≤ new.open_group)
+pub moved_on : (old new : Line) (unsynced : List Record) (synced : SyncedTree) (changes : UnsyncedExtents) → (new.synced ≡ old.synced) × (old.open_group ≤ new.open_group)
     → KeepsUnsynced old unsynced synced changes → KeepsUnsynced new unsynced synced changes
 moved_on old new unsynced synced changes (same, later) x = record {
   open_or_before = stay_open old.open_group new.open_group unsynced later x.open_or_before;
@@ -148,7 +148,7 @@ laid_stay_within changes objects within =
     (stay_within changes.third).1 _ ((stay_within changes.second).1 _ ((stay_within changes.oldest).1 objects within))
 
 -- The oldest group's changes were laid into the synced contents, and the others moved up.
-module _ (old : UnsyncedExtents) (before after : declared.Contents) (laid : contents_of after ≡ patched_contents (changes_at old 0) (name_at old 0) (contents_of before)) where
+module _ (old : UnsyncedExtents) (before after : SyncedTree) (laid : contents_of after ≡ patched_contents (changes_at old 0) (name_at old 0) (contents_of before)) where
   pub synced_within : AreWithin (contents_of before).objects → AreWithin (contents_of after).objects
   synced_within within = subst (λ (c : Contents). AreWithin c.objects) (sym laid) ((stay_within old.oldest).1 (contents_of before).objects within)
 

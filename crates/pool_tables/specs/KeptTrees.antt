@@ -12,5 +12,5 @@ IsOfNoDevice answer = (calls : RefusedCalls) → counted answer calls ≡ calls
 -- a pool whose tree and running sync are as they were
 pub record KeepsTree (old new : PoolTables) : Type 0 where
   pub geometry : new.geometry ≡ old.geometry
-  pub tree : new.tree ≡ old.tree
+  pub tree : new.synced.tree ≡ old.synced.tree
   pub sync : new.sync ≡ old.sync

@@ -13,7 +13,7 @@ use Rattle.extents.specs.Synced.{patched_contents}
 use Rattle.unsynced_extents.specs.Unsynced.{changes_at, laid_all, name_at, name_over}
 use Rattle.tree_blocks.specs.declared.tree.Tree.{Tree}
 use Rattle.contents.specs.ContentsShown.{contents_of}
-use Rattle.tree_blocks.specs.Lengths.{lengths_of}
+use Rattle.tree_blocks.specs.TreeObjects.{lengths_of}
 use Rattle.tree_plans.specs.declared.planner.PlannedBlock.{PlannedBlock}
 use Rattle.pool_tables.specs.declared.pool.RunningSync.{RunningSync}
 use Rattle.pool_tables.specs.declared.pool.PoolTables.{PoolTables}
@@ -26,7 +26,7 @@ abbrev pub geometry_of : PoolTables → ℕ
 geometry_of p = p.geometry
 
 abbrev pub pool_tree : PoolTables → Tree
-pool_tree p = p.tree
+pool_tree p = p.synced.tree
 
 abbrev pub sync_of : PoolTables → Option RunningSync
 sync_of p = p.sync
@@ -84,10 +84,10 @@ shown_of objects p = record {
   reserved = blocks_of p.dirty.sums;
   free = p.free.free;
   log = log_shown p.log;
-  root = p.tree.root;
+  root = p.synced.tree.root;
   synced_contents = synced_of p;
-  lengths = listed (lengths_of p.tree);
-  sync = option_map (plan_of p.tree (contents_after_oldest p)) p.sync;
+  lengths = listed (lengths_of p.synced.tree);
+  sync = option_map (plan_of p.synced.tree (contents_after_oldest p)) p.sync;
 }
 
 -- the objects that a pool shows are those of its synced tree with the changes of its unsynced groups laid over
@@ -101,10 +101,6 @@ shown_contents p = record { name = name_over p.changes p.synced.name; objects = 
 abbrev pub pool_shown : PoolTables → Shown
 pool_shown p = shown_of (pool_objects p) p
 
--- what is shown once the tree of a synced group, which was this one before it, is the pool's
-abbrev pub shown_after_tree : RunningSync → Tree → Shown → Shown
-shown_after_tree r tree s = record s {
-  free = set.union s.free (set.from_list r.freed.items);
-  root = r.root;
-  lengths = listed (lengths_after r.entries tree);
-}
+-- what is shown once these blocks have come back
+abbrev pub shown_given : List ℕ → Shown → Shown
+shown_given freed s = record s { free = set.union s.free (set.from_list freed) }

@@ -50,7 +50,7 @@ new_tree_of tree r = made_by (tree_after r tree) r.run
 
 -- a pool that has these objects, over a device with these bytes
 abbrev pub told_of : FinMap nat_cmp (List ℕ) → PoolTables → List ℕ → ShownPool
-told_of objects p now = record { shown = shown_of objects p; now = now; pointers = pointers_of p.tree; running = option_map (new_tree_of p.tree) p.sync }
+told_of objects p now = record { shown = shown_of objects p; now = now; pointers = pointers_of p.synced.tree; running = option_map (new_tree_of p.synced.tree) p.sync }
 
 -- with the objects that it shows
 abbrev pub pool_told : PoolTables → List ℕ → ShownPool

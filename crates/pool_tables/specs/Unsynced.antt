@@ -5,7 +5,7 @@ use Rattle.base.specs.steps.Groups.{Line}
 use Rattle.unsynced_extents.specs.declared.unsynced.UnsyncedExtents.{UnsyncedExtents}
 use Rattle.extents.specs.Patches.{ArePatchesOf}
 use Rattle.unsynced_extents.specs.Unsynced.{changes_at, name_at}
-use Rattle.contents.specs.declared.contents.Contents.{Contents}
+use Rattle.contents.specs.declared.synced_tree.SyncedTree.{SyncedTree}
 use Rattle.contents.specs.ContentsShown.{contents_of}
 use Rattle.tree_blocks.specs.ListedObjects.{AreWithin}
 use Rattle.records.specs.declared.record.Record.{Record}
@@ -21,7 +21,7 @@ AreNamesOfUnsynced synced unsynced changes = (place : ℕ) → place < 3 → nam
 
 -- The unsynced transactions are of groups up to the open one. The synced objects are within the limits, and the changes
 -- and the name of each unsynced group are those of its operations.
-pub record KeepsUnsynced (line : Line) (unsynced : List Record) (synced : Contents) (changes : UnsyncedExtents) : Type 0 where
+pub record KeepsUnsynced (line : Line) (unsynced : List Record) (synced : SyncedTree) (changes : UnsyncedExtents) : Type 0 where
   pub open_or_before : All (λ (r : Record). r.group.0 ≤ line.open_group) unsynced
   pub within : AreWithin (contents_of synced).objects
   pub changed : AreChangesOfUnsynced line.synced unsynced changes

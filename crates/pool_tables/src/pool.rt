@@ -44,8 +44,9 @@ ghost use Rattle.base.specs.declared.range.Mode.TheVariants.{Writer};
 ghost use Rattle.base.specs.history.Plans.{number_range};
 ghost use Rattle.base.specs.steps.Refusals.{append_range, is_lock_in_use};
 ghost use Rattle.base.specs.steps.Shown as show;
-ghost use Rattle.unsynced_extents.specs.Unsynced.{name_at};
+ghost use Rattle.unsynced_extents.specs.Unsynced.{changes_at, name_at};
 ghost use Rattle.contents.specs.ContentsShown.{contents_of};
+ghost use Rattle.extents.specs.Synced.{HaveLengthsAfter};
 ghost use Rattle.tree_blocks.specs.ListedObjects.{AreWithin};
 ghost use Rattle.tree_blocks.specs.Pointers.{pointers_of};
 ghost use Rattle.intent_log.specs.Kept.{header_fields, log_shown};
@@ -68,7 +69,7 @@ use base::{
     PoolError, PoolName, Range, Receipt, Status, WRITTEN_VERSION,
 };
 use checked_blocks::Frame;
-use contents::Contents;
+use contents::SyncedTree;
 use extents::Laid;
 use groups::Groups;
 use intent_log::{Log, LogHeader};
@@ -127,16 +128,15 @@ pub struct PoolTables {
     transactions: OpenTransactions,
     // the bytes charged to the unsynced groups; their blocks are reserved
     dirty: Dirty,
-    // the objects of the synced tree, by their lengths
-    synced: Contents,
+    // the name and the synced tree: the lengths of its objects, and its pointers down to what its directories name.
+    // Those below are read from these
+    synced: SyncedTree,
     // what the unsynced groups made of them and of the name
     changes: UnsyncedExtents,
     next_ordinal: u64,
     free: FreeSet,
     // with the records of the transactions of unsynced groups
     log: Log,
-    // the pointers of the synced tree down to what its directories name: those below are read from these
-    tree: Tree,
     sync: Option<RunningSync>,
     ghost sized: { IsGeometry geometry },
     ghost free_counted: { IsFreeSetOf (block_count geometry)
@@ -148,13 +148,15 @@ pub struct PoolTables {
     ghost accounted: { AreAccounted transactions.transactions groups dirty } by { Prim.hlevel props },
     ghost running: { ForSome sync (λ r. IsRunning geometry
         (uberblock_with guid import_number (header_fields r.header) r.group.0 r.moment r.root)
-        (pointers_after r.root r.directories.items r.entries tree)
+        (pointers_after r.root r.directories.items r.entries synced.tree)
         (name_at changes 0) r.run) } by { Prim.hlevel props },
     ghost sync_line: { option_map (λ r. r.group.0) sync ≡ groups.line.syncing } by { Prim.hlevel props },
-    ghost tree_placed: { ∥ ArePlaced (block_count geometry) (pointers_of tree) ∥₁ },
+    ghost tree_placed: { ∥ ArePlaced (block_count geometry) (pointers_of synced.tree) ∥₁ },
     ghost unsynced_kept: { KeepsUnsynced groups.line log.records synced changes } by { Prim.hlevel props },
     ghost logged: { IsLogOf groups.line.synced (log_shown log) } by { Prim.hlevel props },
     ghost log_placed: { AreBlocksOf (block_count geometry) (log_addresses (log_shown log)) },
+    ghost sync_lengths: { ForSome sync (λ r. HaveLengthsAfter (changes_at changes 0) r.entries
+        synced.tree) } by { Prim.hlevel props },
     ghost sync_header: { ForSome sync (λ r. KeepsHeader r.group.0 (header_fields r.header)
         (log_shown log)) } by { Prim.hlevel props },
 }
@@ -177,14 +179,13 @@ impl Drop for PoolTables {
             next_ordinal: _,
             free: _,
             log: _,
-            tree: _,
             sync: _,
         } = self;
     }
 }
 
 // The objects of the synced tree, with what the unsynced groups made of them.
-type Objects<'a> = Laid<'a, Laid<'a, Laid<'a, &'a Contents>>>;
+type Objects<'a> = Laid<'a, Laid<'a, Laid<'a, &'a Tree>>>;
 
 impl PoolTables {
     ghost use Rattle.std.specs.Map.Iter.{ShowsInOrder, deref_pair};
@@ -208,7 +209,7 @@ impl PoolTables {
         requires { AreWithin (contents_of mounted.contents).objects }
         ensures geometry { geometry_of result ≡ mounted.geometry }
         ensures shown { pool_shown result ≡ shown_of_import mounted }
-        ensures tree { pool_tree result ≡ mounted.tree }
+        ensures tree { pool_tree result ≡ mounted.contents.tree }
         ensures idle { sync_of result ≡ None }
     {
         let Mounted {
@@ -218,7 +219,6 @@ impl PoolTables {
             group,
             import_number,
             contents,
-            tree,
             free,
             log_address,
             records: _,
@@ -239,7 +239,6 @@ impl PoolTables {
             next_ordinal: 0,
             free,
             log: Log::new(alloc, log_address),
-            tree,
             sync: None,
         }
     }
@@ -262,7 +261,7 @@ impl PoolTables {
     fn objects<'a>(&'a self) -> Objects<'a>
         ensures { ⟦<Objects<'a> as ObjectSource>⟧.objects result ≡ pool_objects self.now }
     {
-        self.changes.over(&self.synced)
+        self.changes.over(&self.synced.tree)
     }
 
     /// Locks a range of an object, in bytes. Refused, in this order, `Suspended`, `BadRange`, `Busy`, `TooMany` or
@@ -356,14 +355,12 @@ impl PoolTables {
     fn shown_tree(&self) -> ShownTree<'_>
         ensures frame { result.frame
             ≡ frame_at (pool_shown self.now) (pool_shown self.now).line.synced }
-        ensures tree { result.tree.now ≡ self.now.tree }
-        ensures contents { result.contents.now ≡ self.now.synced }
+        ensures tree { result.tree.now ≡ self.now.synced.tree }
         ensures changes { result.changes.now ≡ self.now.changes }
     {
         ShownTree {
             frame: self.synced_frame(),
-            tree: &self.tree,
-            contents: &self.synced,
+            tree: &self.synced.tree,
             changes: &self.changes,
         }
     }

@@ -1,27 +1,21 @@
 -- The steps of a pool's only handle, with nothing between them.
 use Rattle.std.proofs.Common.{◌≡◌, ◌∷◌, [], List, ap, subst, ◌∙◌}
-use Rattle.std.specs.Prelude.{All, IsTrue}
+use Rattle.std.specs.Prelude.{All}
 use Rattle.std.proofs.Math.Logic.{∥∥₁_map, ∥∥₁_elim, ∥∥₁_prop}
 use Rattle.std.proofs.lemmas.List.Elements.{All-head, All-tail}
 use Rattle.base.specs.declared.error.PoolError.{PoolError}
 use Rattle.base.specs.declared.step.Step as declared_step
 use Rattle.base.specs.declared.step.Reply as declared_reply
 use Rattle.base.specs.declared.step.Reply.TheVariants as reply
-use Rattle.base.specs.steps.Tables.{AreTablesExplained}
 use Rattle.base.specs.steps.Runs.{Step}
 use Rattle.base.specs.steps.Steps.{State}
 use Rattle.device_model.specs.declared.device.SectorDevice.{Ghosts}
 use Rattle.pool_threads.specs.declared.handle.Handle.{Handle}
-use Rattle.pool_threads.specs.Answers.{Makes, MakesAtLast, state_seen}
+use Rattle.pool_threads.specs.Answers.{Makes, state_seen}
 use Rattle.pool_threads.specs.Handles.{kin_of}
 use Rattle.pool_threads.specs.Turns.{AreUnbroken}
 use Rattle.pool_threads.specs.Views.{IsPoolStep, SeenPool, viewed_state}
 use Rattle.word_lock.specs.declared.rule.Turn.{Turn}
-use Rattle.word_lock.specs.Seats.{seen}
-
--- a state that its past explains
-abbrev IsSound : State → Type 0
-IsSound s = AreTablesExplained s.shown s.past
 
 -- a step over a device of which nothing is known
 abbrev pub Does : declared_step.Step → declared_reply.Reply → State → State → Type 0
@@ -32,7 +26,7 @@ abbrev pub Leaves : declared_step.Step → PoolError → Type 0
 Leaves s e = (old new : State) → Does s (reply.Refused e) old new → new ≡ old
 
 -- tries that are refused so, with nothing between them, leave all as it is
-tries_leave : (keeps : Type 0) (s : declared_step.Step) (e : PoolError) (ts : List (Turn SeenPool)) (v w : SeenPool) → Leaves s e → All (λ (t : Turn SeenPool). IsPoolStep keeps s (reply.Refused e) t.took t.left) ts → AreUnbroken v ts w
+pub tries_leave : (keeps : Type 0) (s : declared_step.Step) (e : PoolError) (ts : List (Turn SeenPool)) (v w : SeenPool) → Leaves s e → All (λ (t : Turn SeenPool). IsPoolStep keeps s (reply.Refused e) t.took t.left) ts → AreUnbroken v ts w
     → ∥ viewed_state w ≡ viewed_state v ∥₁
 tries_leave keeps s e [] v w leaves all line = ∣ ap (λ (u : SeenPool). viewed_state u) line ∣₁
 tries_leave keeps s e (t ∷ ts) v w leaves all line =
@@ -45,17 +39,3 @@ module _ {Dev : Type 0} {G : Ghosts Dev} where
   pub step_at_once : {s : declared_step.Step} {r : declared_reply.Reply} (old new : Handle Dev G) → kin_of old ≡ 0 → Makes s r old new → ∥ Does s r (state_seen old) (state_seen new) ∥₁
   step_at_once {s} {r} old new only m =
       ∥∥₁_map {B = Does s r (state_seen old) (state_seen new)} m.made.made.step (λ one. subst (λ (v : SeenPool). Does s r (viewed_state v) (state_seen new)) (m.made.alone only) one)
-
-  module _ {s : declared_step.Step} {e : PoolError} {r : declared_reply.Reply} (old new : Handle Dev G) (leaves : Leaves s e) (only : kin_of old ≡ 0) (m : MakesAtLast s e r old new) where
-    took_is : ∥ viewed_state m.made.took ≡ state_seen old ∥₁
-    took_is = tries_leave (IsTrue G.keeps_model) s e m.made.had (seen old.seat) m.made.took leaves m.made.each (m.made.alone only)
-
-    pub step_at_last : ∥ Does s r (state_seen old) (state_seen new) ∥₁
-    step_at_last =
-        ∥∥₁_elim took_is ∥∥₁_prop (λ same.
-        ∥∥₁_map {B = Does s r (state_seen old) (state_seen new)} m.made.made.step (λ one. subst (λ (v : State). Does s r v (state_seen new)) same one))
-
-    pub sound_before : ∥ IsSound (state_seen old) ∥₁
-    sound_before =
-        ∥∥₁_elim took_is ∥∥₁_prop (λ same.
-        ∥∥₁_map {B = IsSound (state_seen old)} m.made.made.explained (λ x. subst IsSound same x))

@@ -2,14 +2,14 @@
 use Rattle.std.proofs.Common.{◌≡◌, [], ℕ, List, refl, sym, subst, ◌∙◌}
 use Rattle.std.specs.Prelude.{IsTrue}
 use Rattle.std.proofs.Math.Logic.{∥∥₁_map, ∥∥₁_elim, ∥∥₁_prop}
-use Rattle.base.specs.declared.error.PoolError.{PoolError}
 use Rattle.base.specs.declared.step.Step as declared_step
 use Rattle.base.specs.declared.step.Reply as declared_reply
+use Rattle.base.specs.disk.Disk.{bytes_of}
 use Rattle.base.specs.steps.Runs.{Step}
 use Rattle.base.specs.steps.Seen.{IsMadeBetween}
 use Rattle.device_model.specs.declared.device.SectorDevice.{Ghosts}
 use Rattle.pool_threads.specs.declared.handle.Handle.{Handle}
-use Rattle.pool_threads.specs.Answers.{Makes, MakesAtLast, Sees}
+use Rattle.pool_threads.specs.Answers.{Makes, Sees}
 use Rattle.pool_threads.specs.Handles.{StaysInPool}
 use Rattle.pool_threads.specs.Views.{GrowsTo, IsPoolStep, SeenPool, grows_onward, grows_same, viewed_state}
 use Rattle.pool_threads.proofs.Made.{grows_by_made, met_none_on}
@@ -33,6 +33,18 @@ between_all keeps over now s r u v w x earlier one later steps =
       made = step;
     }))))
 
+module _ {keeps : Type 0} {s : declared_step.Step} {r : declared_reply.Reply} where
+  pub one_grows : {v w : SeenPool} → IsPoolStep keeps s r v w → GrowsTo keeps v w
+  one_grows {v} {w} one = grows_by_one keeps s r v v w refl one
+
+  -- a step of a turn is one between what was seen before it and what is seen after it
+  pub seen_in : (u v w x : SeenPool) → GrowsTo keeps u v → IsPoolStep keeps s r v w → GrowsTo keeps w x → ∥ IsMadeBetween ⊥ s r (viewed_state u) (viewed_state x) ∥₁
+  seen_in u v w x earlier one later = between_all keeps ⊥ [] s r u v w x earlier one later one.step
+
+  -- over a device that keeps the disk model it is one over the bytes of then
+  pub seen_in_on : keeps → (u v w x : SeenPool) → GrowsTo keeps u v → IsPoolStep keeps s r v w → GrowsTo keeps w x → ∥ IsMadeBetween (Unit {0}) s r (viewed_state u) (viewed_state x) ∥₁
+  seen_in_on kept u v w x earlier one later = between_all keeps (Unit {0}) (bytes_of v.disk.now) s r u v w x earlier one later (one.over kept)
+
 module _ {Dev : Type 0} {G : Ghosts Dev} where
   -- the handle stays in its pool, sees what goes on from what it had seen, and meets no other
   pub record GoesAlong (old new : Handle Dev G) : Type 0 where
@@ -54,16 +66,6 @@ module _ {Dev : Type 0} {G : Ghosts Dev} where
   pub along_made : {s : declared_step.Step} {r : declared_reply.Reply} {old new : Handle Dev G} → Makes s r old new → GoesAlong old new
   along_made m = record { same_pool = m.same_pool; onward = grows_by_made m.made; met_none = m.made.met_none }
 
-  pub along_last : {s : declared_step.Step} {e : PoolError} {r : declared_reply.Reply} {old new : Handle Dev G} → MakesAtLast s e r old new → GoesAlong old new
-  along_last m = record { same_pool = m.same_pool; onward = grows_onward _ _ _ _ m.made.onward (grows_by_one _ _ _ _ _ _ refl m.made.made); met_none = m.made.met_none }
-
-  -- a step of a transaction is one between what its handle had seen before it and has seen after it
+  -- a step of a handle is one between what it had seen before it and has seen after it
   pub seen_made : {s : declared_step.Step} {r : declared_reply.Reply} (old now next new : Handle Dev G) → GoesAlong old now → Makes s r now next → GoesAlong next new → Sees (IsMadeBetween ⊥ s r) old new
-  seen_made old now next new first m later = between_all _ ⊥ [] _ _ _ _ _ _ (grows_onward _ _ _ _ first.onward m.made.onward) m.made.made later.onward m.made.made.step
-
-  -- over a device that keeps the disk model it is one over the bytes of then
-  pub seen_made_on : IsTrue G.keeps_model → {s : declared_step.Step} {r : declared_reply.Reply} (old now next new : Handle Dev G) → GoesAlong old now → Makes s r now next → GoesAlong next new → Sees (IsMadeBetween (Unit {0}) s r) old new
-  seen_made_on keeps old now next new first m later = between_all _ (Unit {0}) _ _ _ _ _ _ _ (grows_onward _ _ _ _ first.onward m.made.onward) m.made.made later.onward (m.made.made.over keeps)
-
-  pub seen_last : {s : declared_step.Step} {e : PoolError} {r : declared_reply.Reply} (old now next new : Handle Dev G) → GoesAlong old now → MakesAtLast s e r now next → GoesAlong next new → Sees (IsMadeBetween ⊥ s r) old new
-  seen_last old now next new first m later = between_all _ ⊥ [] _ _ _ _ _ _ (grows_onward _ _ _ _ first.onward m.made.onward) m.made.made later.onward m.made.made.step
+  seen_made old now next new first m later = seen_in _ _ _ _ (grows_onward _ _ _ _ first.onward m.made.onward) m.made.made later.onward

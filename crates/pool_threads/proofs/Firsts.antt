@@ -22,7 +22,7 @@ use Rattle.pool_core.specs.States.{cache_room_of, device_of, shown, told}
 use Rattle.pool_threads.proofs.FreePools.{free_explained}
 use Rattle.pool_threads.specs.Handles.{IsReadyToOpen, OpensBehind, ShowsMounted, StartsBehind}
 use Rattle.pool_threads.specs.Views.{CrashRule, Explains, SeenPool, view_behind_disk, view_of}
-use Rattle.pool_threads.specs.Views.CrashRule.{Behind, NotFollowed}
+use Rattle.pool_threads.specs.Views.CrashRule.{NotFollowed}
 use Rattle.base.specs.kept.LeftDisks.{IsLeft}
 
 -- what is so of an answer, as far as it says more

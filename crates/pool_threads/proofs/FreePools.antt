@@ -1,5 +1,5 @@
 -- One history explains a pool whose lock is free, and a finished pool leaves what its run has come to.
-use Rattle.std.proofs.Common.{◌≡◌, ℕ, sym, subst}
+use Rattle.std.proofs.Common.{ℕ, sym, subst}
 use Rattle.std.specs.Prelude.{IsTrue, Result}
 use Rattle.std.proofs.Math.Logic.{∥∥₁_map}
 use Rattle.base.specs.declared.error.PoolError.{PoolError}

@@ -1,5 +1,5 @@
 -- A plan of a fault, which no view shows.
-use Rattle.std.proofs.Common.{◌≡◌, ◌∙◌, ◌++◌, ◌∷◌, [], List, ap, refl, sym, subst}
+use Rattle.std.proofs.Common.{◌≡◌, ◌∙◌, ◌++◌, ◌∷◌, [], List, ap, sym, subst}
 use Rattle.std.specs.Prelude.{Bool, IsTrue, Result}
 use Rattle.base.specs.declared.error.PoolError.{PoolError}
 use Rattle.base.specs.declared.names.Receipt.{Receipt}
@@ -52,9 +52,8 @@ looked_one {new = new} l p = record {
 }
 
 -- what a pool says of a receipt, its view says
-pub found_by : {Dev : Type 0} {G : Ghosts Dev} (receipt : Receipt) (result : Result Bool PoolError) (p : PoolState Dev G) (v : SeenPool) → Explains p v → ChecksReceipt receipt result (shown p) → FindsReceipt receipt result (turn v v)
-found_by receipt result p v x checked = record {
-  looked = refl;
-  checked = subst (λ (a : State). ChecksReceipt receipt result a.shown) (sym x.state) checked;
+pub found_by : {Dev : Type 0} {G : Ghosts Dev} (receipt : Receipt) (found : Result Bool PoolError) (p : PoolState Dev G) (t : Turn SeenPool) → Explains p t.left → ChecksReceipt receipt found (shown p) → FindsReceipt receipt found t
+found_by receipt found p t x checked = record {
+  checked = subst (λ (a : State). ChecksReceipt receipt found a.shown) (sym x.state) checked;
   explained = subst (λ (a : State). ∥ AreTablesExplained a.shown a.past ∥₁) (sym x.state) x.explained;
 }

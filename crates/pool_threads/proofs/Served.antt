@@ -81,17 +81,20 @@ module _ (keeps : Type 0) (d : Duty) where
   last_made r u w made = last_due made.0 r u w made.2
 
   -- a refusal that ends a turn is that of a step that was due, in some state since any before
-  pub refused_due : (e : PoolError) (v u w : SeenPool) → GrowsTo keeps v u → MakesDue keeps d (Some (reply.Refused e)) u w → ∥ IsRefusedDuty d e (viewed_state v) (viewed_state w) ∥₁
-  refused_due e v u w onward made =
-      let l = last_made (reply.Refused e) u w made in
-      ∥∥₁_elim (grows_onward keeps _ _ _ onward l.onward).goes_on ∥∥₁_prop (λ before.
-      ∥∥₁_map {B = IsRefusedDuty d e (viewed_state v) (viewed_state w)} (between keeps l.step (reply.Refused e) l.at l.at w (grows_same keeps l.at) l.made) (λ b. record {
-        due_at = viewed_state l.at;
-        no_earlier = before;
-        step = l.step;
-        due = l.due;
-        refusal = refused_between l.step e (viewed_state l.at) (viewed_state w) b;
-      }))
+  module _ (e : PoolError) (v u w : SeenPool) where
+    pub refused_last : (l : LastDue (reply.Refused e) u w) → GrowsTo keeps v l.at → ∥ IsRefusedDuty d e (viewed_state v) (viewed_state w) ∥₁
+    refused_last l onward =
+        ∥∥₁_elim onward.goes_on ∥∥₁_prop (λ before.
+        ∥∥₁_map {B = IsRefusedDuty d e (viewed_state v) (viewed_state w)} (between keeps l.step (reply.Refused e) l.at l.at w (grows_same keeps l.at) l.made) (λ b. record {
+          due_at = viewed_state l.at;
+          no_earlier = before;
+          step = l.step;
+          due = l.due;
+          refusal = refused_between l.step e (viewed_state l.at) (viewed_state w) b;
+        }))
+
+    pub refused_due : GrowsTo keeps v u → MakesDue keeps d (Some (reply.Refused e)) u w → ∥ IsRefusedDuty d e (viewed_state v) (viewed_state w) ∥₁
+    refused_due onward made = let l = last_made (reply.Refused e) u w made in refused_last l (grows_onward keeps _ _ _ onward l.onward)
 
   module _ {T R : Type 0} (r : Option declared_reply.Reply) where
     -- what was done over what the seat had of the pool, whose view it put back

@@ -12,11 +12,8 @@ use Rattle.base.specs.declared.names.TxId.{TxId}
 use Rattle.base.specs.declared.operation.Op.{Op}
 use Rattle.base.specs.declared.operation.Shape.{Shape}
 use Rattle.base.specs.declared.range.ObjectRange.{ObjectRange}
-use Rattle.base.specs.declared.step.Step as declared_step
 use Rattle.base.specs.declared.step.Step.TheVariants as step
-use Rattle.base.specs.declared.step.Reply as declared_reply
 use Rattle.base.specs.declared.step.Reply.TheVariants as reply
-use Rattle.base.specs.steps.Seen.{IsMadeBetween}
 use Rattle.base.specs.steps.Steps.{State}
 use Rattle.base.proofs.steps.SeenStates.{commits_are_seen}
 use Rattle.device_model.specs.declared.device.SectorDevice.{Ghosts}
@@ -25,27 +22,19 @@ use Rattle.pool_threads.specs.declared.handle.Handle.{Handle}
 use Rattle.pool_threads.specs.Answers.{IsRefusal, Sees, state_seen}
 use Rattle.pool_threads.specs.Handles.{moment_of}
 use Rattle.pool_threads.specs.Transacts.{BeginsAndEnds, Ends, IsCommitRefusal, IsEarlierTurn, IsLastTurn, IsPayingTurn, IsTransactRefusal, IsTransacted, Locks, LocksAndBegins, LocksAndEnds, MakesTransaction, Transacts, TransactsAtLast, TransactsLocked, TransactsOrLacks, Unlocks, lock_step, plan_of_ops}
-use Rattle.pool_threads.specs.Views.{GrowsTo, IsPoolStep, SeenPool, grows_onward, grows_same, viewed_state}
+use Rattle.pool_threads.specs.Views.{GrowsTo, SeenPool, grows_onward, grows_same, viewed_state}
 use Rattle.pool_threads.specs.Waits.{IsSyncingRefusal}
-use Rattle.pool_threads.proofs.Along.{GoesAlong, along_same, between_all}
+use Rattle.pool_threads.proofs.Along.{GoesAlong, along_same, one_grows, seen_in}
 use Rattle.pool_threads.proofs.Answered.{refused_between}
 use Rattle.pool_threads.proofs.Served.{grows_by_due, refused_due}
-use Rattle.pool_threads.proofs.Turned.{grows_by_one}
 use Rattle.transactions.specs.LockRanges.{lock_ranges}
 use Rattle.word_lock.specs.declared.rule.Turn.{Turn}
 use Rattle.word_lock.specs.Seats.{seen}
 use Rattle.word_lock.specs.Turns.{turn}
 
 module _ (keeps : Type 0) where
-  one_grows : {s : declared_step.Step} {r : declared_reply.Reply} {v w : SeenPool} → IsPoolStep keeps s r v w → GrowsTo keeps v w
-  one_grows {s} {r} {v} {w} one = grows_by_one keeps s r v v w refl one
-
   same_grows : (v w : SeenPool) → w ≡ v → GrowsTo keeps v w
   same_grows v w same = subst (GrowsTo keeps v) (sym same) (grows_same keeps v)
-
-  -- a step of a turn is one between what was seen before it and what is seen after it
-  seen_in : {s : declared_step.Step} {r : declared_reply.Reply} (u v w x : SeenPool) → GrowsTo keeps u v → IsPoolStep keeps s r v w → GrowsTo keeps w x → ∥ IsMadeBetween ⊥ s r (viewed_state u) (viewed_state x) ∥₁
-  seen_in {s} {r} u v w x earlier one later = between_all keeps ⊥ [] s r u v w x earlier one later one.step
 
   module _ (owner : Owner) where
     locks_grow : (rs : List ObjectRange) (ids : List LockId) (v w : SeenPool) → Locks keeps owner rs ids v w → GrowsTo keeps v w

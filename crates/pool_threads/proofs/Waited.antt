@@ -17,7 +17,7 @@ use Rattle.pool_threads.specs.Handles.{moment_of}
 use Rattle.pool_threads.specs.Serves.{GoesOnAfter, IsServedTurn}
 use Rattle.pool_threads.specs.Turns.{AreUnbroken}
 use Rattle.pool_threads.specs.Views.{GrowsTo, SeenPool, grows_onward, grows_same}
-use Rattle.pool_threads.specs.Waits.{EndsAfter, EndsSyncing, IsSyncTurn, Leads, LooksAt, SyncsInstead, SyncsUpTo, Waits, WaitsOnce, WaitsUntil, WritesLogInTurn}
+use Rattle.pool_threads.specs.Waits.{EndsAfter, EndsSyncing, IsRefusedToWrite, IsSyncTurn, Leads, LooksAt, SyncsInstead, SyncsUpTo, Waits, WaitsForFlush, WaitsOnce, WaitsUntil, WritesAndFinds, last_found}
 use Rattle.pool_threads.proofs.Made.{met_none_on}
 use Rattle.pool_threads.proofs.Served.{grows_by_due}
 use Rattle.pool_threads.proofs.Tried.{at_last, no_turns, one_more_turn, stays_on, unbroken_push}
@@ -157,9 +157,6 @@ module _ {Dev : Type 0} {G : Ghosts Dev} where
   abbrev pub TakesAnyAtLast : Handle Dev G → Handle Dev G → Type 0
   TakesAnyAtLast = TakesAtLast (LeadsOn (IsTrue G.keeps_model)) (LeadsOn (IsTrue G.keeps_model))
 
-  log_turn : (r : Option declared_reply.Reply) {old new : Handle Dev G} → WritesLogInTurn r old new → TakesAnyOne old new
-  log_turn r m = served_as (λ t made. served_leads (IsTrue G.keeps_model) duty.CommitLog r t made) m
-
   pub more_leads_on : {old now next : Handle Dev G} → TakesAny old now → TakesAnyOne now next → TakesAny old next
   more_leads_on t m = one_more_turn _ t m m.made.made.0
 
@@ -176,50 +173,82 @@ module _ {Dev : Type 0} {G : Ghosts Dev} where
   -- a wait for a receipt, turn by turn
   module _ (receipt : Receipt) where
     look_turn : (found : Result Bool PoolError) {old new : Handle Dev G} → LooksAt receipt found old new → TakesAnyOne old new
-    look_turn found m = served_as (λ t f. (subst (GrowsTo (IsTrue G.keeps_model) t.took) (sym f.looked) (grows_same (IsTrue G.keeps_model) t.took), inl f.looked)) m
+    look_turn found m = served_as (λ t f. (subst (GrowsTo (IsTrue G.keeps_model) t.took) (sym f.0) (grows_same (IsTrue G.keeps_model) t.took), inl f.0)) m
+
+    log_turn : (r : Option declared_reply.Reply) (found : Result Bool PoolError) {old new : Handle Dev G} → WritesAndFinds receipt r found old new → TakesAnyOne old new
+    log_turn r found m = served_as (λ t made. served_leads (IsTrue G.keeps_model) duty.CommitLog r t made.0) m
+
+    refused_turn : (e : PoolError) {old new : Handle Dev G} → IsRefusedToWrite receipt e old new → TakesAnyOne old new
+    refused_turn e m = served_as (λ t made. served_leads (IsTrue G.keeps_model) duty.CommitLog (Some (reply.Refused e)) t made.2.0) m
+
+    at_once : {old new : Handle Dev G} → TakesAnyOne old new → TakesAnyAtLast old new
+    at_once {old} m = at_last _ (no_turns _ old) m
 
     sync_instead : (result : Result (Unit {0}) PoolError) {old new : Handle Dev G} → SyncsInstead receipt result old new → TakesAnyAtLast old new
-    sync_instead result {old} s = ends_on (more_leads_on (no_turns _ old) (log_turn (Some (reply.Refused NoLogSpace)) s.refused)) (sync_turns receipt.group result s.syncs)
+    sync_instead result {old} s = ends_on (more_leads_on (no_turns _ old) (refused_turn NoLogSpace s.refused)) (sync_turns receipt.group result s.syncs)
 
-    pub lead_turns : (result : Result (Unit {0}) PoolError) {old new : Handle Dev G} → Leads receipt result old new → TakesAnyAtLast old new
-    lead_turns (Ok done) {old} (inl (r, passed, m)) = at_last _ (no_turns _ old) (log_turn r m)
-    lead_turns (Ok done) (inr s) = sync_instead (Ok done) s
-    lead_turns (Err e) {old} (inl (other, m)) = at_last _ (no_turns _ old) (log_turn (Some (reply.Refused e)) m)
-    lead_turns (Err e) (inr s) = sync_instead (Err e) s
+    lead_turns : (found : Result Bool PoolError) {old new : Handle Dev G} → Leads receipt found old new → TakesAnyAtLast old new
+    lead_turns (Ok true) (inl (r, m)) = at_once (log_turn r (Ok true) m)
+    lead_turns (Ok true) (inr s) = sync_instead (Ok tt) s
+    lead_turns (Ok false) (r, passed, m) = at_once (log_turn r (Ok false) m)
+    lead_turns (Err e) (inl (r, passed, m)) = at_once (log_turn r (Err e) m)
+    lead_turns (Err e) (inr (inl (other, m))) = at_once (refused_turn e m)
+    lead_turns (Err e) (inr (inr s)) = sync_instead (Err e) s
 
-    -- what is done in a round after its look
-    pub round_rest : {old new : Handle Dev G} (w : WaitsOnce receipt old new) → TakesAny w.looked new
-    round_rest {old} {new} w = by w.goes_on
-      where
-        by : (new ≡ w.looked) ⊎ Leads receipt (Ok tt) w.looked new → TakesAny w.looked new
-        by (inl same) = subst (λ (h : Handle Dev G). TakesAny w.looked h) (sym same) (no_turns _ w.looked)
-        by (inr l) = all_alike (λ t leads. (leads, leads.0)) (lead_turns (Ok tt) l)
+    round_at_last : (found : Result Bool PoolError) {old new : Handle Dev G} → WaitsOnce receipt found old new → TakesAnyAtLast old new
+    round_at_last found (inl look) = at_once (look_turn found look)
+    round_at_last found (inr led) = lead_turns found led
 
-    round_turns : {old new : Handle Dev G} → WaitsOnce receipt old new → TakesAny old new
-    round_turns {old} w = takes_on (more_leads_on (no_turns _ old) (look_turn (Ok false) w.looks)) (round_rest w)
+    round_turns : (found : Result Bool PoolError) {old new : Handle Dev G} → WaitsOnce receipt found old new → TakesAny old new
+    round_turns found w = all_alike (λ t leads. (leads, leads.0)) (round_at_last found w)
 
     pub wait_turns : (rounds : List (Handle Dev G)) {old now : Handle Dev G} → Waits receipt rounds old now → TakesAny old now
     wait_turns [] {old} same = subst (λ (h : Handle Dev G). TakesAny old h) (sym same) (no_turns _ old)
-    wait_turns (h ∷ hs) (first, rest) = takes_on (round_turns first) (wait_turns hs rest)
+    wait_turns (h ∷ hs) (first, rest) = takes_on (round_turns (Ok false) first) (wait_turns hs rest)
+
+    pub flush_wait : (result : Result (Unit {0}) PoolError) {old new : Handle Dev G} → WaitsForFlush receipt result old new → TakesAnyAtLast old new
+    flush_wait result w = ends_on (wait_turns w.rounds w.waits) (round_at_last (last_found result) w.ends)
+
+    -- a wait that looks first is one of which the look is a round
+    module _ (result : Result (Unit {0}) PoolError) (old looked new : Handle Dev G) where
+      looks_last : (found : Result Bool PoolError) → last_found result ≡ found → LooksAt receipt found old looked → new ≡ looked → WaitsForFlush receipt result old new
+      looks_last found is look same = record {
+        rounds = [];
+        last = old;
+        waits = refl;
+        ends = inl (subst (λ (h : Handle Dev G). LooksAt receipt (last_found result) old h) (sym same) (subst (λ (x : Result Bool PoolError). LooksAt receipt x old looked) (sym is) look));
+      }
+
+      looks_before : (found : Result Bool PoolError) → LooksAt receipt found old looked → EndsAfter receipt found result looked new → WaitsForFlush receipt result old new
+      looks_before (Ok true) look (is, same) = looks_last (Ok true) (ap last_found is) look same
+      looks_before (Ok false) look f = record { rounds = looked ∷ f.rounds; last = f.last; waits = (inl look, f.waits); ends = f.ends }
+      looks_before (Err e) look (is, same) = looks_last (Err e) (ap last_found is) look same
+
+    pub as_flush_wait : (result : Result (Unit {0}) PoolError) (old new : Handle Dev G) → WaitsUntil receipt result old new → WaitsForFlush receipt result old new
+    as_flush_wait result old new w = looks_before result old w.looked new w.found w.looks w.ends
+
+    -- and so it is made
+    module _ (x : Result Bool PoolError) {old looked : Handle Dev G} (look : LooksAt receipt x old looked) where
+      looked_as : (y : Result Bool PoolError) → x ≡ y → LooksAt receipt y old looked
+      looked_as y is = subst (λ (z : Result Bool PoolError). LooksAt receipt z old looked) is look
+
+      pub look_durable : x ≡ Ok true → WaitsUntil receipt (Ok tt) old looked
+      look_durable is = record { found = Ok true; looked = looked; looks = looked_as (Ok true) is; ends = (refl, refl) }
+
+      pub look_refused : (result : Result (Unit {0}) PoolError) (e : PoolError) → x ≡ Err e → IsErrAnd result (λ f. f ≡ e) → WaitsUntil receipt result old looked
+      look_refused (Ok done) e is same = absurd same
+      look_refused (Err f) e is same = record { found = Err e; looked = looked; looks = looked_as (Err e) is; ends = (ap (λ (g : PoolError). Err g) same, refl) }
+
+      pub look_and_wait : (result : Result (Unit {0}) PoolError) {new : Handle Dev G} → x ≡ Ok false → WaitsForFlush receipt result looked new → WaitsUntil receipt result old new
+      look_and_wait result is w = record { found = Ok false; looked = looked; looks = looked_as (Ok false) is; ends = w }
 
     pub whole_wait : (result : Result (Unit {0}) PoolError) {old new : Handle Dev G} → WaitsUntil receipt result old new → TakesAnyAtLast old new
-    whole_wait result {old} {new} w = by w.found w.looks w.ends
-      where
-        before : TakesAny old w.last
-        before = wait_turns w.rounds w.waits
+    whole_wait result {old} {new} w = flush_wait result (as_flush_wait result old new w)
 
-        there : (found : Result Bool PoolError) → LooksAt receipt found w.last w.looked → new ≡ w.looked → TakesAnyAtLast old new
-        there found look same = subst (λ (h : Handle Dev G). TakesAnyAtLast old h) (sym same) (at_last _ before (look_turn found look))
-
-        by : (found : Result Bool PoolError) → LooksAt receipt found w.last w.looked → EndsAfter receipt found result w.looked new → TakesAnyAtLast old new
-        by (Ok true) look ends = there (Ok true) look ends.1
-        by (Ok false) look ends = ends_on (more_leads_on before (look_turn (Ok false) look)) (lead_turns (Err ends.0) ends.2)
-        by (Err e) look ends = there (Err e) look ends.1
-
-  -- a wait for a receipt, round by round
+  -- a wait for a flush, round by round
   module _ (receipt : Receipt) where
-    one_more_round : (rounds : List (Handle Dev G)) (old now next : Handle Dev G) → Waits receipt rounds old now → WaitsOnce receipt now next → Waits receipt (rounds ++ next ∷ []) old next
-    one_more_round [] old now next same once = (subst (λ (h : Handle Dev G). WaitsOnce receipt h next) same once, refl)
+    one_more_round : (rounds : List (Handle Dev G)) (old now next : Handle Dev G) → Waits receipt rounds old now → WaitsOnce receipt (Ok false) now next → Waits receipt (rounds ++ next ∷ []) old next
+    one_more_round [] old now next same once = (subst (λ (h : Handle Dev G). WaitsOnce receipt (Ok false) h next) same once, refl)
     one_more_round (h ∷ hs) old now next (first, rest) once = (first, one_more_round hs h now next rest once)
 
     -- so far the handle waited
@@ -227,54 +256,53 @@ module _ {Dev : Type 0} {G : Ghosts Dev} where
       pub rounds : List (Handle Dev G)
       pub waits : Waits receipt rounds old now
 
-    waited_once : {old now next : Handle Dev G} → HasWaited old now → WaitsOnce receipt now next → HasWaited old next
-    waited_once {old} {now} {next} w once = record { rounds = w.rounds ++ next ∷ []; waits = one_more_round w.rounds old now next w.waits once }
+    -- one round more, by what it found
+    module _ (x : Result Bool PoolError) {old now next : Handle Dev G} (so_far : HasWaited old now) (once : WaitsOnce receipt x now next) where
+      found_as : (y : Result Bool PoolError) → x ≡ y → WaitsOnce receipt y now next
+      found_as y is = subst (λ (z : Result Bool PoolError). WaitsOnce receipt z now next) is once
 
-    -- what a look found
-    module _ (x : Result Bool PoolError) {old now next : Handle Dev G} (so_far : HasWaited old now) (m : LooksAt receipt x now next) where
-      found_as : (y : Result Bool PoolError) → x ≡ y → LooksAt receipt y now next
-      found_as y is = subst (λ (z : Result Bool PoolError). LooksAt receipt z now next) is m
+      pub waited_on : x ≡ Ok false → HasWaited old next
+      waited_on is = record { rounds = so_far.rounds ++ next ∷ []; waits = one_more_round so_far.rounds old now next so_far.waits (found_as (Ok false) is) }
 
-      ended : (y : Result Bool PoolError) (result : Result (Unit {0}) PoolError) {new : Handle Dev G} → x ≡ y → EndsAfter receipt y result next new → WaitsUntil receipt result old new
-      ended y result is ends = record { rounds = so_far.rounds; last = now; waits = so_far.waits; found = y; looked = next; looks = found_as y is; ends = ends }
+      ended : (result : Result (Unit {0}) PoolError) → x ≡ last_found result → WaitsForFlush receipt result old next
+      ended result is = record { rounds = so_far.rounds; last = now; waits = so_far.waits; ends = found_as (last_found result) is }
+
+      pub waited_out : x ≡ Ok true → WaitsForFlush receipt (Ok tt) old next
+      waited_out is = ended (Ok tt) is
 
       -- the same refusal as a result
-      as_result : (result : Result (Unit {0}) PoolError) (e : PoolError) → IsErrAnd result (λ f. f ≡ e) → result ≡ Err e
-      as_result (Ok done) e is = absurd is
-      as_result (Err f) e is = ap (λ (g : PoolError). Err g) is
+      pub wait_refused : (result : Result (Unit {0}) PoolError) (e : PoolError) → x ≡ Err e → IsErrAnd result (λ f. f ≡ e) → WaitsForFlush receipt result old next
+      wait_refused (Ok done) e is same = absurd same
+      wait_refused (Err f) e is same = ended (Err f) (is ∙ ap (λ (g : PoolError). Err g) (sym same))
 
-      pub found_durable : x ≡ Ok true → WaitsUntil receipt (Ok tt) old next
-      found_durable is = ended (Ok true) (Ok tt) is (refl, refl)
+    -- one who leads writes and flushes the log, and looks
+    module _ (r : Option declared_reply.Reply) (found : Result Bool PoolError) {old now : Handle Dev G} (m : WritesAndFinds receipt r found old now) where
+      pub found_durable : found ≡ Ok true → Leads receipt (Ok true) old now
+      found_durable is = inl (r, subst (λ (x : Result Bool PoolError). WritesAndFinds receipt r x old now) is m)
 
-      pub found_refused : (result : Result (Unit {0}) PoolError) (e : PoolError) → x ≡ Err e → IsErrAnd result (λ f. f ≡ e) → WaitsUntil receipt result old next
-      found_refused result e is same = ended (Err e) result is (as_result result e same, refl)
+      pub found_so : GoesOnAfter None r → Leads receipt found old now
+      found_so passed = by found m
+        where
+          by : (x : Result Bool PoolError) → WritesAndFinds receipt r x old now → Leads receipt x old now
+          by (Ok true) m = inl (r, m)
+          by (Ok false) m = (r, passed, m)
+          by (Err e) m = inl (r, passed, m)
 
-      -- another handle leads
-      pub looked_for : x ≡ Ok false → HasWaited old next
-      looked_for is = waited_once so_far (record { looked = next; looks = found_as (Ok false) is; goes_on = inl refl })
+      -- a refusal of a step
+      module _ (e : PoolError) (is : r ≡ Some (reply.Refused e)) (none : found ≡ Ok true → ⊥) where
+        refused_to_write : IsRefusedToWrite receipt e old now
+        refused_to_write = served_as (λ t made. (found, none, (subst (λ (x : Option declared_reply.Reply). IsServedTurn (IsTrue G.keeps_model) duty.CommitLog x t) is made.0, made.1))) m
 
-      -- this one does
-      pub led_on : (y : Result (Unit {0}) PoolError) {new : Handle Dev G} → x ≡ Ok false → y ≡ Ok tt → Leads receipt y next new → HasWaited old new
-      led_on y {new} is done l = waited_once so_far (record { looked = next; looks = found_as (Ok false) is; goes_on = inr (subst (λ (z : Result (Unit {0}) PoolError). Leads receipt z next new) done l) })
+        pub log_refused : (e ≡ NoLogSpace → ⊥) → Leads receipt (Err e) old now
+        log_refused other = inr (inl (other, refused_to_write))
 
-      pub led_to_end : (result y : Result (Unit {0}) PoolError) (e : PoolError) {new : Handle Dev G} → x ≡ Ok false → y ≡ Err e → IsErrAnd result (λ f. f ≡ e) → Leads receipt y next new → WaitsUntil receipt result old new
-      led_to_end result y e {new} is failed same l = ended (Ok false) result is (e, as_result result e same, subst (λ (z : Result (Unit {0}) PoolError). Leads receipt z next new) failed l)
+        -- or groups were synced up to the receipt's
+        pub synced_instead : (result : Result (Unit {0}) PoolError) {new : Handle Dev G} → e ≡ NoLogSpace → SyncsUpTo receipt.group result now new → Leads receipt (last_found result) old new
+        synced_instead result {new} full u = by result u
+          where
+            refused : IsRefusedToWrite receipt NoLogSpace old now
+            refused = subst (λ (f : PoolError). IsRefusedToWrite receipt f old now) full refused_to_write
 
-    -- one who leads writes and flushes the log
-    pub logged : (r : Option declared_reply.Reply) {old new : Handle Dev G} → GoesOnAfter None r → WritesLogInTurn r old new → Leads receipt (Ok tt) old new
-    logged r passed m = inl (r, passed, m)
-
-    pub log_refused : (r : Option declared_reply.Reply) (e : PoolError) {old new : Handle Dev G} → r ≡ Some (reply.Refused e) → (e ≡ NoLogSpace → ⊥) → WritesLogInTurn r old new → Leads receipt (Err e) old new
-    log_refused r e is other m = inl (other, refused_as duty.CommitLog r e is m)
-
-    -- or groups were synced up to the receipt's
-    pub synced_instead : (r : Option declared_reply.Reply) (e : PoolError) {old now new : Handle Dev G} (result : Result (Unit {0}) PoolError) → r ≡ Some (reply.Refused e) → e ≡ NoLogSpace → WritesLogInTurn r old now → SyncsUpTo receipt.group result now new
-        → Leads receipt result old new
-    synced_instead r e {old} {now} {new} result is full m u = by result u
-      where
-        refused : WritesLogInTurn (Some (reply.Refused NoLogSpace)) old now
-        refused = refused_as duty.CommitLog r NoLogSpace (is ∙ ap (λ (f : PoolError). Some (reply.Refused f)) full) m
-
-        by : (x : Result (Unit {0}) PoolError) → SyncsUpTo receipt.group x now new → Leads receipt x old new
-        by (Ok done) s = inr (record { full = now; refused = refused; syncs = s })
-        by (Err f) s = inr (record { full = now; refused = refused; syncs = s })
+            by : (x : Result (Unit {0}) PoolError) → SyncsUpTo receipt.group x now new → Leads receipt (last_found x) old new
+            by (Ok done) s = inr (record { full = now; refused = refused; syncs = s })
+            by (Err f) s = inr (inr (record { full = now; refused = refused; syncs = s }))

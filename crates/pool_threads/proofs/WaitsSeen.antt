@@ -19,6 +19,7 @@ use Rattle.base.specs.steps.Seen.{IsKnownDurable, IsRefusedBetween}
 use Rattle.base.specs.steps.SeenLaws.{is_untested}
 use Rattle.base.specs.steps.Shown.{is_durable}
 use Rattle.base.specs.steps.Steps.{State}
+use Rattle.base.proofs.steps.KeptTables.{runs_keep_tables}
 use Rattle.base.proofs.steps.SeenGroups.{durable_is_known}
 use Rattle.base.proofs.steps.StepEffects.{Answered, step_does}
 use Rattle.base.proofs.steps.StepEffects.Answered.{tested, untested, made}
@@ -26,21 +27,23 @@ use Rattle.device_model.specs.declared.device.SectorDevice.{Ghosts}
 use Rattle.pool_core.specs.StepReplies.{IsStep}
 use Rattle.pool_tables.specs.declared.duty.Duty.{Duty}
 use Rattle.pool_tables.specs.declared.duty.Duty.TheVariants as duty
+use Rattle.pool_tables.specs.Receipts.{ChecksReceipt}
 use Rattle.pool_tables.proofs.DueSteps.{log_refusals, receipt_refusals, receipt_suspends, refusals_up_to}
 use Rattle.pool_threads.specs.declared.handle.Handle.{Handle}
 use Rattle.pool_threads.specs.Answers.{Sees, state_seen}
 use Rattle.pool_threads.specs.Handles.{HasLooked, moment_of}
 use Rattle.pool_threads.specs.Serves.{IsRefusedTurn, MakesDue}
 use Rattle.pool_threads.specs.Views.{GrowsTo, SeenPool, grows_onward, grows_same, viewed_state}
-use Rattle.pool_threads.specs.Waits.{EndsAfter, FindsReceipt, IsRefusedAfter, IsSyncingRefusal, IsWaitingRefusal, Leads, LeavesDurable, LooksAt, SyncsPool, SyncsUpTo, WaitsUntil, result_of, wait_refusal}
-use Rattle.pool_threads.proofs.Served.{LastDue, grows_by_due, last_made, refused_due}
-use Rattle.pool_threads.proofs.Waited.{TakesAny, wait_turns}
+use Rattle.pool_threads.specs.Waits.{FindsReceipt, IsRefusedAfter, IsRefusedLog, IsSyncingRefusal, IsWaitingRefusal, LeavesDurable, SyncsInstead, SyncsPool, SyncsUpTo, WaitsForFlush, WaitsOnce, WaitsUntil, result_of, wait_refusal}
+use Rattle.pool_threads.proofs.Along.{one_grows}
+use Rattle.pool_threads.proofs.Served.{LastDue, grows_by_due, last_made, refused_due, refused_last}
+use Rattle.pool_threads.proofs.Waited.{TakesAny, TakesAnyAtLast, as_flush_wait, flush_wait, sync_turns, wait_turns}
 use Rattle.word_lock.specs.declared.rule.Turn.{Turn}
 use Rattle.word_lock.specs.Seats.{seen}
 use Rattle.word_lock.specs.Turns.{turn}
 
 -- a refusal of a step that its tests see is the first of them, and all stands
-tested-there : (s : declared_step.Step) (e : PoolError) (a b : State) → IsStep s (reply.Refused e) a b → is_untested e ≡ false → (refusal_of_step s a.shown ≡ Some e) × (b ≡ a)
+pub tested-there : (s : declared_step.Step) (e : PoolError) (a b : State) → IsStep s (reply.Refused e) a b → is_untested e ≡ false → (refusal_of_step s a.shown ≡ Some e) × (b ≡ a)
 tested-there s e a b h seen_by = by (step_does ⊥ [] s (reply.Refused e) a b h).answer
   where
     same : (f : PoolError) → reply.Refused e ≡ reply.Refused f → e ≡ f
@@ -123,18 +126,34 @@ never_refused moment receipt e s after x is r =
     let shown : is_durable r.looked.shown receipt.ordinal.0 receipt.group.0 ≡ true = known-shown receipt.ordinal.0 receipt.group.0 r.looked r.explained (durable_is_known receipt.ordinal.0 receipt.group.0 s r.looked x is r.no_earlier) in
     false≢true (sym r.not_durable ∙ shown)
 
--- a look that refuses
-found_refusal : (keeps : Type 0) (receipt : Receipt) (e : PoolError) (v : SeenPool) (t : Turn SeenPool) → GrowsTo keeps v t.took → FindsReceipt receipt (Err e) t → ∥ IsRefusedBetween (wait_refusal receipt) e (viewed_state v) (viewed_state t.left) ∥₁
-found_refusal keeps receipt e v t onward f =
-    ∥∥₁_elim onward.goes_on ∥∥₁_prop (λ before.
-    ∥∥₁_map {B = IsRefusedBetween (wait_refusal receipt) e (viewed_state v) (viewed_state t.left)} f.explained (λ x. record {
-      state = viewed_state t.left;
-      no_earlier = subst (λ (u : SeenPool). GoesOn (viewed_state v) (viewed_state u)) (sym f.looked) before;
-      no_later = ([], [], refl);
-      explained = x;
-      refused = ap (λ (b : Bool). if b then None else fsync_refusal receipt.ordinal.0 receipt.group.0 (viewed_state t.left).shown) f.checked.0 ∙ f.checked.1;
-      suspended = λ is. receipt_suspends receipt.ordinal.0 receipt.group.0 (viewed_state t.left).shown (f.checked.1 ∙ ap (λ (y : PoolError). Some y) is);
-    }))
+-- what a wait finds durable, or not
+module _ (receipt : Receipt) (found : Result Bool PoolError) (t : Turn SeenPool) (f : FindsReceipt receipt found t) where
+  pub not_found : (found ≡ Ok true → ⊥) → is_durable (viewed_state t.left).shown receipt.ordinal.0 receipt.group.0 ≡ false
+  not_found none = by found none f.checked
+    where
+      by : (x : Result Bool PoolError) → (x ≡ Ok true → ⊥) → ChecksReceipt receipt x (viewed_state t.left).shown → is_durable (viewed_state t.left).shown receipt.ordinal.0 receipt.group.0 ≡ false
+      by (Ok true) none checked = absurd (none refl)
+      by (Ok false) none checked = sym checked.0
+      by (Err e) none checked = checked.0
+
+-- a refusal of a look
+found_refusal : (receipt : Receipt) (e : PoolError) (s : State) → AreTablesExplained s.shown s.past → ChecksReceipt receipt (Err e) s.shown → IsRefusedBetween (wait_refusal receipt) e s s
+found_refusal receipt e s x checked = record {
+  state = s;
+  no_earlier = ([], [], refl);
+  no_later = ([], [], refl);
+  explained = x;
+  refused = ap (λ (b : Bool). if b then None else fsync_refusal receipt.ordinal.0 receipt.group.0 s.shown) checked.0 ∙ checked.1;
+  suspended = λ is. receipt_suspends receipt.ordinal.0 receipt.group.0 s.shown (checked.1 ∙ ap (λ (y : PoolError). Some y) is);
+}
+
+-- what isn't durable wasn't so before
+undurable_before : (ordinal group : ℕ) (a b : State) → AreTablesExplained a.shown a.past → AreTablesExplained b.shown b.past → GoesOn a b → is_durable b.shown ordinal group ≡ false → is_durable a.shown ordinal group ≡ false
+undurable_before ordinal group a b x y on none = by (is_durable a.shown ordinal group) refl
+  where
+    by : (c : Bool) → is_durable a.shown ordinal group ≡ c → is_durable a.shown ordinal group ≡ false
+    by true is = absurd (false≢true (sym none ∙ known-shown ordinal group b y (durable_is_known ordinal group a b x is on)))
+    by false is = is
 
 -- the last turn of a wait that is refused: of a look, of the log, or of a sync
 abbrev LastTurn : Type 0 → Receipt → PoolError → Turn SeenPool → Type 0
@@ -144,17 +163,33 @@ LastTurn keeps receipt e t = FindsReceipt receipt (Err e) t
 
 module _ {Dev : Type 0} {G : Ghosts Dev} where
   module _ (receipt : Receipt) where
-    -- a wait that returns Ok has found the transaction durable, in what the handle has seen then
-    found_last : (old new : Handle Dev G) → WaitsUntil receipt (Ok tt) old new → ∥ AreTablesExplained (state_seen new).shown (state_seen new).past ∥₁ × (is_durable (state_seen new).shown receipt.ordinal.0 receipt.group.0 ≡ true)
-    found_last old new w = by w.found w.looks w.ends
-      where
-        by : (found : Result Bool PoolError) → LooksAt receipt found w.last w.looked → EndsAfter receipt found (Ok tt) w.looked new → ∥ AreTablesExplained (state_seen new).shown (state_seen new).past ∥₁ × (is_durable (state_seen new).shown receipt.ordinal.0 receipt.group.0 ≡ true)
-        by (Ok true) look ends =
-            subst (λ (h : Handle Dev G). ∥ AreTablesExplained (state_seen h).shown (state_seen h).past ∥₁ × (is_durable (state_seen h).shown receipt.ordinal.0 receipt.group.0 ≡ true)) (sym ends.1) (look.made.made.explained, sym look.made.made.checked.0)
-        by (Ok false) look ends = absurd (let no_way : Ok tt ≡ Err ends.0 = ends.1 in cc)
-        by (Err e) look ends = absurd (let no_way : Ok tt ≡ Err e = ends.0 in cc)
+    -- the state that is seen last is explained, and the transaction is durable in it
+    abbrev FoundLast : Handle Dev G → Type 0
+    FoundLast h = ∥ AreTablesExplained (state_seen h).shown (state_seen h).past ∥₁ × (is_durable (state_seen h).shown receipt.ordinal.0 receipt.group.0 ≡ true)
 
-    pub durable_seen : (result : Result (Unit {0}) PoolError) (old new : Handle Dev G) → WaitsUntil receipt result old new → IfOk result (λ _. Sees (LeavesDurable receipt) old new)
+    -- its group is synced then
+    found_by_sync : (old new : Handle Dev G) → SyncsInstead receipt (Ok tt) old new → FoundLast new
+    found_by_sync old new s = (
+      ∥∥₁_elim s.refused.made.made.2.1.explained ∥∥₁_prop (λ x.
+          let turns = sync_turns receipt.group (Ok tt) s.syncs in
+          ∥∥₁_map {B = AreTablesExplained (state_seen new).shown (state_seen new).past} (grows_onward _ _ _ _ turns.made.onward turns.made.made.0).goes_on
+          (λ on. runs_keep_tables ⊥ on.0 on.1 (state_seen s.full) (state_seen new) on.2 x)),
+      ap (λ (b : Bool). b || is_flushed_in (state_seen new).shown.log (record { ordinal = receipt.ordinal.0; group = receipt.group.0 })) (le-leb receipt.group.0 (state_seen new).shown.line.synced s.syncs.made.made.1),
+    )
+
+    -- a wait that returns Ok has found the transaction durable, in what the handle has seen then
+    found_last : (old new : Handle Dev G) → WaitsForFlush receipt (Ok tt) old new → FoundLast new
+    found_last old new w = by w.ends
+      where
+        of_turn : (t : Turn SeenPool) → t.left ≡ seen new.seat → FindsReceipt receipt (Ok true) t → FoundLast new
+        of_turn t is f = subst (λ (v : SeenPool). ∥ AreTablesExplained (viewed_state v).shown v.past ∥₁ × (is_durable (viewed_state v).shown receipt.ordinal.0 receipt.group.0 ≡ true)) is (f.explained, sym f.checked.0)
+
+        by : WaitsOnce receipt (Ok true) w.last new → FoundLast new
+        by (inl look) = of_turn (turn look.made.took (seen new.seat)) refl look.made.made.1
+        by (inr (inl (r, m))) = of_turn (turn m.made.took (seen new.seat)) refl m.made.made.1
+        by (inr (inr s)) = found_by_sync w.last new s
+
+    pub durable_seen : (result : Result (Unit {0}) PoolError) (old new : Handle Dev G) → WaitsForFlush receipt result old new → IfOk result (λ _. Sees (LeavesDurable receipt) old new)
     durable_seen (Ok done) old new w =
         let there = found_last old new w in
         ∥∥₁_map {B = LeavesDurable receipt (state_seen old) (state_seen new)} there.0 (λ x. durable_is_known receipt.ordinal.0 receipt.group.0 (state_seen new) (state_seen new) x there.1 ([], [], refl))
@@ -163,79 +198,85 @@ module _ {Dev : Type 0} {G : Ghosts Dev} where
     -- a wait after one that returned Ok is not refused
     pub durable_twice : (e : PoolError) (old middle new : Handle Dev G) → WaitsUntil receipt (Ok tt) old middle → Sees (IsWaitingRefusal (moment_of middle) receipt e) middle new → ⊥
     durable_twice e old middle new w refused =
-        let there = found_last old middle w in
+        let there = found_last old middle (as_flush_wait receipt (Ok tt) old middle w) in
         ∥∥₁_elim there.0 none (λ x.
         ∥∥₁_elim refused none (λ r. never_refused (moment_of middle) receipt e (state_seen middle) (state_seen new) x there.1 r))
       where
         none : (x y : ⊥) → x ≡ y
         none x y = absurd x
 
-    -- the refusals of one who leads
-    led_refusal : (e : PoolError) (moment : ℕ) (looked new : Handle Dev G) → moment_of looked ≡ moment → Leads receipt (Err e) looked new → ∥ IsRefusedAfter moment receipt e (state_seen looked) (state_seen new) ∥₁
-    led_refusal e moment looked new at (inl (other, m)) =
-        ∥∥₁_map {B = IsRefusedAfter moment receipt e (state_seen looked) (state_seen new)} (refused_due (IsTrue G.keeps_model) duty.CommitLog e (seen looked.seat) m.made.took (seen new.seat) m.made.onward m.made.made) (λ r. inr (inl r))
-    led_refusal e moment looked new at (inr s) =
-        let u = s.syncs in
-        let refused = subst (λ (x : ℕ). IsRefusedTurn (IsTrue G.keeps_model) (duty.SyncUpTo receipt.group x) e (turn u.made.took (seen new.seat))) (s.refused.same_pool.1 ∙ at) u.made.made in
-        let full = grows_by_due (IsTrue G.keeps_model) duty.CommitLog (Some (reply.Refused error.NoLogSpace)) s.refused.made.took (seen s.full.seat) s.refused.made.made in
-        let onward = grows_onward _ _ _ _ s.refused.made.onward (grows_onward _ _ _ _ full u.made.onward) in
-        ∥∥₁_map {B = IsRefusedAfter moment receipt e (state_seen looked) (state_seen new)} (refused_due (IsTrue G.keeps_model) (duty.SyncUpTo receipt.group moment) e (seen looked.seat) u.made.took (seen new.seat) onward refused) (λ r. inr (inr r))
-
-    -- a refusal of the last look
-    look_refusal : (e : PoolError) (moment : ℕ) (earlier looked : Handle Dev G) → LooksAt receipt (Err e) earlier looked → ∥ IsRefusedAfter moment receipt e (state_seen looked) (state_seen looked) ∥₁
-    look_refusal e moment earlier looked l =
-        ∥∥₁_map {B = IsRefusedAfter moment receipt e (state_seen looked) (state_seen looked)}
-        (found_refusal (IsTrue G.keeps_model) receipt e (seen looked.seat) (turn l.made.took (seen looked.seat)) (subst (GrowsTo (IsTrue G.keeps_model) (seen looked.seat)) l.made.made.looked (grows_same (IsTrue G.keeps_model) (seen looked.seat))) l.made.made)
-        (λ r. inl r)
-
-    -- what the last look found, and what came after it
-    refusal_from : (e : PoolError) (found : Result Bool PoolError) (moment : ℕ) (old earlier looked new : Handle Dev G) (onward : GrowsTo (IsTrue G.keeps_model) (seen old.seat) (seen earlier.seat)) (l : LooksAt receipt found earlier looked)
-        → is_durable (state_seen looked).shown receipt.ordinal.0 receipt.group.0 ≡ false → ∥ IsRefusedAfter moment receipt e (state_seen looked) (state_seen new) ∥₁ → Sees (IsWaitingRefusal moment receipt e) old new
-    refusal_from e found moment old earlier looked new onward l none after =
-        ∥∥₁_elim (grows_onward _ _ _ _ onward l.made.onward).goes_on ∥∥₁_prop (λ before.
-        ∥∥₁_elim l.made.made.explained ∥∥₁_prop (λ x.
-        ∥∥₁_map {B = IsWaitingRefusal moment receipt e (state_seen old) (state_seen new)} after (λ r. record {
-          looked = state_seen looked;
-          no_earlier = subst (λ (u : SeenPool). GoesOn (state_seen old) (viewed_state u)) (sym l.made.made.looked) before;
+    -- a refusal, by a state in which the transaction wasn't durable, and what came after it
+    refused_after : (e : PoolError) (moment : ℕ) (old : Handle Dev G) (at left : SeenPool) → GrowsTo (IsTrue G.keeps_model) (seen old.seat) at → ∥ AreTablesExplained (viewed_state at).shown at.past ∥₁
+        → is_durable (viewed_state at).shown receipt.ordinal.0 receipt.group.0 ≡ false → ∥ IsRefusedAfter moment receipt e (viewed_state at) (viewed_state left) ∥₁ → ∥ IsWaitingRefusal moment receipt e (state_seen old) (viewed_state left) ∥₁
+    refused_after e moment old at left onward sound none after =
+        ∥∥₁_elim onward.goes_on ∥∥₁_prop (λ before.
+        ∥∥₁_elim sound ∥∥₁_prop (λ x.
+        ∥∥₁_map {B = IsWaitingRefusal moment receipt e (state_seen old) (viewed_state left)} after (λ r. record {
+          looked = viewed_state at;
+          no_earlier = before;
           explained = x;
           not_durable = none;
           refused = r;
         })))
 
-    pub refusal_seen : (result : Result (Unit {0}) PoolError) (old new : Handle Dev G) → WaitsUntil receipt result old new → IfErr result (λ e. Sees (IsWaitingRefusal (moment_of old) receipt e) old new)
+    -- by the look in a turn
+    refused_look : (e : PoolError) (moment : ℕ) (old : Handle Dev G) (t : Turn SeenPool) → GrowsTo (IsTrue G.keeps_model) (seen old.seat) t.left → FindsReceipt receipt (Err e) t → ∥ IsWaitingRefusal moment receipt e (state_seen old) (viewed_state t.left) ∥₁
+    refused_look e moment old t onward f =
+        refused_after e moment old t.left t.left onward f.explained f.checked.0
+        (∥∥₁_map {B = IsRefusedAfter moment receipt e (viewed_state t.left) (viewed_state t.left)} f.explained (λ x. inl (found_refusal receipt e (viewed_state t.left) x f.checked)))
+
+    -- by a step for the log
+    refused_log : (e : PoolError) (moment : ℕ) (old : Handle Dev G) (t : Turn SeenPool) → GrowsTo (IsTrue G.keeps_model) (seen old.seat) t.took → IsRefusedLog (IsTrue G.keeps_model) receipt e t → ∥ IsWaitingRefusal moment receipt e (state_seen old) (viewed_state t.left) ∥₁
+    refused_log e moment old t onward (found, other, (does, f)) =
+        let l = last_made (IsTrue G.keeps_model) duty.CommitLog (reply.Refused e) t.took t.left does in
+        ∥∥₁_elim l.made.explained ∥∥₁_prop (λ x.
+        ∥∥₁_elim f.explained ∥∥₁_prop (λ y.
+        ∥∥₁_elim (one_grows l.made).goes_on ∥∥₁_prop (λ on.
+        refused_after e moment old l.at t.left (grows_onward _ _ _ _ onward l.onward) l.made.explained
+        (undurable_before receipt.ordinal.0 receipt.group.0 (viewed_state l.at) (viewed_state t.left) x y on (not_found receipt found t f other))
+        (∥∥₁_map {B = IsRefusedAfter moment receipt e (viewed_state l.at) (viewed_state t.left)} (refused_last (IsTrue G.keeps_model) duty.CommitLog e l.at t.took t.left l (grows_same (IsTrue G.keeps_model) l.at)) (λ r. inr (inl r))))))
+
+    -- or in a sync instead
+    refused_sync : (e : PoolError) (old now new : Handle Dev G) → TakesAny old now → SyncsInstead receipt (Err e) now new → Sees (IsWaitingRefusal (moment_of old) receipt e) old new
+    refused_sync e old now new so_far s =
+        let u = s.syncs in
+        let full = s.refused.made in
+        let grown = grows_by_due (IsTrue G.keeps_model) duty.CommitLog (Some (reply.Refused error.NoLogSpace)) full.took (seen s.full.seat) full.made.2.0 in
+        let moment : moment_of s.full ≡ moment_of old = s.refused.same_pool.1 ∙ so_far.same_pool.1 in
+        let refused = subst (λ (x : ℕ). IsRefusedTurn (IsTrue G.keeps_model) (duty.SyncUpTo receipt.group x) e (turn u.made.took (seen new.seat))) moment u.made.made in
+        refused_after e (moment_of old) old (seen s.full.seat) (seen new.seat) (grows_onward _ _ _ _ so_far.made.onward (grows_onward _ _ _ _ full.onward grown)) full.made.2.1.explained
+        (not_found receipt full.made.0 (turn full.took (seen s.full.seat)) full.made.2.1 full.made.1)
+        (∥∥₁_map {B = IsRefusedAfter (moment_of old) receipt e (state_seen s.full) (state_seen new)} (refused_due (IsTrue G.keeps_model) (duty.SyncUpTo receipt.group (moment_of old)) e (seen s.full.seat) u.made.took (seen new.seat) u.made.onward refused) (λ r. inr (inr r)))
+
+    pub refusal_seen : (result : Result (Unit {0}) PoolError) (old new : Handle Dev G) → WaitsForFlush receipt result old new → IfErr result (λ e. Sees (IsWaitingRefusal (moment_of old) receipt e) old new)
     refusal_seen (Ok done) old new w = tt
-    refusal_seen (Err e) old new w = by w.found w.looks w.ends
+    refusal_seen (Err e) old new w = by w.ends
       where
         so_far : TakesAny old w.last
         so_far = wait_turns receipt w.rounds w.waits
 
-        by : (found : Result Bool PoolError) → LooksAt receipt found w.last w.looked → EndsAfter receipt found (Err e) w.looked new → Sees (IsWaitingRefusal (moment_of old) receipt e) old new
-        by (Ok true) l ends = absurd (let no_way : Err e ≡ Ok tt = ends.0 in cc)
-        by (Ok false) l ends =
-            let same : ends.0 ≡ e = (let is : Err e ≡ Err ends.0 = ends.1 in cc) in
-            let leads = subst (λ (x : PoolError). Leads receipt (Err x) w.looked new) same ends.2 in
-            refusal_from e (Ok false) (moment_of old) old w.last w.looked new so_far.made.onward l (sym l.made.made.checked.0) (led_refusal e (moment_of old) w.looked new (l.same_pool.1 ∙ so_far.same_pool.1) leads)
-        by (Err f) l ends =
-            let same : f ≡ e = (let is : Err e ≡ Err f = ends.0 in cc) in
-            let look = subst (λ (x : PoolError). LooksAt receipt (Err x) w.last w.looked) same l in
-            subst (λ (h : Handle Dev G). Sees (IsWaitingRefusal (moment_of old) receipt e) old h) (sym ends.1) (refusal_from e (Err e) (moment_of old) old w.last w.looked w.looked so_far.made.onward look look.made.made.checked.0 (look_refusal e (moment_of old) w.last w.looked look))
+        whole : TakesAnyAtLast old new
+        whole = flush_wait receipt (Err e) w
 
-    last_turn : (e : PoolError) (old new : Handle Dev G) → WaitsUntil receipt (Err e) old new → (took : SeenPool) × LastTurn (IsTrue G.keeps_model) receipt e (turn took (seen new.seat))
-    last_turn e old new w = by w.found w.looks w.ends
+        onward : GrowsTo (IsTrue G.keeps_model) (seen old.seat) (seen new.seat)
+        onward = grows_onward _ _ _ _ whole.made.onward whole.made.made.0
+
+        by : WaitsOnce receipt (Err e) w.last new → Sees (IsWaitingRefusal (moment_of old) receipt e) old new
+        by (inl look) = refused_look e (moment_of old) old (turn look.made.took (seen new.seat)) onward look.made.made.1
+        by (inr (inl (r, passed, m))) = refused_look e (moment_of old) old (turn m.made.took (seen new.seat)) onward m.made.made.1
+        by (inr (inr (inl (other, m)))) = refused_log e (moment_of old) old (turn m.made.took (seen new.seat)) (grows_onward _ _ _ _ so_far.made.onward m.made.onward) m.made.made
+        by (inr (inr (inr s))) = refused_sync e old w.last new so_far s
+
+    last_turn : (e : PoolError) (old new : Handle Dev G) → WaitsForFlush receipt (Err e) old new → (took : SeenPool) × LastTurn (IsTrue G.keeps_model) receipt e (turn took (seen new.seat))
+    last_turn e old new w = by w.ends
       where
-        of_lead : (f : PoolError) → f ≡ e → Leads receipt (Err f) w.looked new → (took : SeenPool) × LastTurn (IsTrue G.keeps_model) receipt e (turn took (seen new.seat))
-        of_lead f same (inl (other, m)) = subst (λ (x : PoolError). (took : SeenPool) × LastTurn (IsTrue G.keeps_model) receipt x (turn took (seen new.seat))) same (m.made.took, inr (inl (other, m.made.made)))
-        of_lead f same (inr s) = subst (λ (x : PoolError). (took : SeenPool) × LastTurn (IsTrue G.keeps_model) receipt x (turn took (seen new.seat))) same (s.syncs.made.took, inr (inr (moment_of s.full, s.syncs.made.made)))
+        by : WaitsOnce receipt (Err e) w.last new → (took : SeenPool) × LastTurn (IsTrue G.keeps_model) receipt e (turn took (seen new.seat))
+        by (inl look) = (look.made.took, inl look.made.made.1)
+        by (inr (inl (r, passed, m))) = (m.made.took, inl m.made.made.1)
+        by (inr (inr (inl (other, m)))) = (m.made.took, inr (inl (other, m.made.made.2.0)))
+        by (inr (inr (inr s))) = (s.syncs.made.took, inr (inr (moment_of s.full, s.syncs.made.made)))
 
-        by : (found : Result Bool PoolError) → LooksAt receipt found w.last w.looked → EndsAfter receipt found (Err e) w.looked new → (took : SeenPool) × LastTurn (IsTrue G.keeps_model) receipt e (turn took (seen new.seat))
-        by (Ok true) l ends = absurd (let no_way : Err e ≡ Ok tt = ends.0 in cc)
-        by (Ok false) l ends = of_lead ends.0 (let is : Err e ≡ Err ends.0 = ends.1 in cc) ends.2
-        by (Err f) l ends =
-            let same : f ≡ e = (let is : Err e ≡ Err f = ends.0 in cc) in
-            let look = subst (λ (x : PoolError). LooksAt receipt (Err x) w.last w.looked) same l in
-            subst (λ (h : Handle Dev G). (took : SeenPool) × LastTurn (IsTrue G.keeps_model) receipt e (turn took (seen h.seat))) (sym ends.1) (look.made.took, inl look.made.made)
-
-    pub log_space_never : (result : Result (Unit {0}) PoolError) (old new : Handle Dev G) → WaitsUntil receipt result old new → IfErr result (λ e. e ≢ error.NoLogSpace)
+    pub log_space_never : (result : Result (Unit {0}) PoolError) (old new : Handle Dev G) → WaitsForFlush receipt result old new → IfErr result (λ e. e ≢ error.NoLogSpace)
     log_space_never (Ok done) old new w = tt
     log_space_never (Err e) old new w = λ is. let ended = last_turn e old new w in by is ended.0 ended.1
       where
@@ -248,7 +289,7 @@ module _ {Dev : Type 0} {G : Ghosts Dev} where
         by is took (inr (inl (other, m))) = other is
         by is took (inr (inr (moment, m))) = syncs_without_log (IsTrue G.keeps_model) took (seen new.seat) receipt.group moment e m is
 
-    pub at_last_group : (result : Result (Unit {0}) PoolError) (old new : Handle Dev G) → WaitsUntil receipt result old new → IfErr result (λ e. e ≡ error.NotReady → last_number ≤ (state_seen new).shown.line.open_group)
+    pub at_last_group : (result : Result (Unit {0}) PoolError) (old new : Handle Dev G) → WaitsForFlush receipt result old new → IfErr result (λ e. e ≡ error.NotReady → last_number ≤ (state_seen new).shown.line.open_group)
     at_last_group (Ok done) old new w = tt
     at_last_group (Err e) old new w = λ is. let ended = last_turn e old new w in by is ended.0 ended.1
       where

@@ -1,5 +1,6 @@
--- What a handle does in the turns of one fetch: it locks a range as a reader, reads it, and unlocks it.
-use Rattle.std.specs.Prelude.{ℕ, ◌≡◌, ◌⊎◌, List, Ok, Err, Result}
+-- What a handle does for one fetch: in one turn it locks a range as a reader, reads it, and unlocks it. Before that it may
+-- have had turns in which the lock was refused.
+use Rattle.std.specs.Prelude.{ℕ, ◌≡◌, ◌⊎◌, IsTrue, List, None, Ok, Err, Option, Result, Some}
 use Rattle.base.specs.declared.error.PoolError.{PoolError}
 use Rattle.base.specs.declared.error.PoolError.TheVariants as error
 use Rattle.base.specs.declared.names.LockId.{LockId}
@@ -15,36 +16,46 @@ use Rattle.base.specs.steps.Runs.{reply_of}
 use Rattle.base.specs.steps.Steps.{State}
 use Rattle.device_model.specs.declared.device.SectorDevice.{Ghosts}
 use Rattle.pool_threads.specs.declared.handle.Handle.{Handle}
-use Rattle.pool_threads.specs.Answers.{IsRefusal, Makes, MakesAtLast, Sees, WaitsWhileNot}
+use Rattle.pool_threads.specs.Answers.{IsRefusal, Sees, TakesAtLast}
 use Rattle.pool_threads.specs.Handles.{kin_of}
 use Rattle.pool_threads.specs.Vain.{IsInOwnWay}
+use Rattle.pool_threads.specs.Views.{IsPoolStep, SeenPool, viewed_state}
+use Rattle.word_lock.specs.declared.rule.Turn.{Turn}
 
 -- the step that locks a range for reading
 abbrev pub reader_step : Owner → ObjectId → Range → declared_step.Step
 reader_step owner object range = step.Lock owner object range Reader
 
-module _ {Dev : Type 0} {G : Ghosts Dev} where
-  -- each turn but the last left no lock of the owner that keeps it from reading the range
-  abbrev pub WaitsToRead : Owner → ObjectId → Range → Handle Dev G → Handle Dev G → Type 0
-  WaitsToRead owner object range = WaitsWhileNot (IsInOwnWay owner (object_range object.0 range.low range.high) Reader)
+-- a lock of the owner keeps it from reading the range, of what this view shows
+abbrev pub KeepsFromReading : Owner → ObjectId → Range → SeenPool → Type 0
+KeepsFromReading owner object range v = IsInOwnWay owner (object_range object.0 range.low range.high) Reader (viewed_state v).shown
 
-  -- The handle got a reader lock on the range, read the range with this result, and then unlocked it, with some answer.
-  -- It made no other step but tries of the lock that were refused `Busy`, none of them for a lock of its own owner.
-  pub record ReadsUnderLock (owner : Owner) (object : ObjectId) (range : Range) (result : Result (List ℕ) PoolError) (old new : Handle Dev G) : Type 0 where
+module _ (keeps : Type 0) (owner : Owner) (object : ObjectId) (range : Range) where
+  -- These steps were made and no others: the range was locked for a reader, read with this result, and unlocked, with
+  -- some answer.
+  pub record ReadsUnderLock (result : Result (List ℕ) PoolError) (v w : SeenPool) : Type 0 where
     pub id : LockId
-    pub locked : Handle Dev G
-    pub locks : MakesAtLast (reader_step owner object range) error.Busy (reply.Locked id) old locked
-    pub in_time : WaitsToRead owner object range old locked
-    pub read : Handle Dev G
-    pub reads : Makes (step.Read owner object range) (reply_of (λ bytes. reply.Bytes bytes) result) locked read
+    pub locked : SeenPool
+    pub locks : IsPoolStep keeps (reader_step owner object range) (reply.Locked id) v locked
+    pub read : SeenPool
+    pub reads : IsPoolStep keeps (step.Read owner object range) (reply_of (λ bytes. reply.Bytes bytes) result) locked read
     pub answer : Result (Unit {0}) PoolError
-    pub unlocks : Makes (step.Unlock owner id) (reply_of (λ _. reply.Done) answer) read new
+    pub unlocks : IsPoolStep keeps (step.Unlock owner id) (reply_of (λ _. reply.Done) answer) read w
 
-  -- it did so, or was refused the lock in time
-  abbrev pub Fetches : Owner → ObjectId → Range → Result (List ℕ) PoolError → Handle Dev G → Handle Dev G → Type 0
-  Fetches owner object range (Ok bytes) old new = ReadsUnderLock owner object range (Ok bytes) old new
-  Fetches owner object range (Err e) old new =
-      (MakesAtLast (reader_step owner object range) error.Busy (reply.Refused e) old new × WaitsToRead owner object range old new) ⊎ ReadsUnderLock owner object range (Err e) old new
+  -- the lock was refused so, and no other step was made
+  abbrev pub IsRefusedLock : PoolError → SeenPool → SeenPool → Type 0
+  IsRefusedLock e v w = IsPoolStep keeps (reader_step owner object range) (reply.Refused e) v w
+
+  -- What is made for a fetch with this result: all of it, or a lock that is refused, `Busy` only by one of its own owner.
+  -- Without a result it is made again: the lock was refused `Busy`, and none of its own owner stands in its way.
+  abbrev pub MakesFetch : Option (Result (List ℕ) PoolError) → SeenPool → SeenPool → Type 0
+  MakesFetch None v w = IsRefusedLock error.Busy v w × (KeepsFromReading owner object range w → ⊥)
+  MakesFetch (Some (Ok bytes)) v w = ReadsUnderLock (Ok bytes) v w
+  MakesFetch (Some (Err e)) v w = (IsRefusedLock e v w × (e ≡ error.Busy → KeepsFromReading owner object range w)) ⊎ ReadsUnderLock (Err e) v w
+
+  -- in this turn that was made
+  abbrev pub IsFetchTurn : Option (Result (List ℕ) PoolError) → Turn SeenPool → Type 0
+  IsFetchTurn result t = MakesFetch result t.took t.left
 
 -- a refusal of the lock or of the read
 abbrev pub IsFetchRefusal : Owner → ObjectId → Range → PoolError → State → State → Type 0
@@ -54,6 +65,13 @@ IsFetchRefusal owner object range e before after = IsRefusal (reader_step owner 
 abbrev pub ShowsSame : State → State → Type 0
 ShowsSame before after = after.shown ≡ record before.shown { next_lock = after.shown.next_lock }
 
--- The only handle of a pool has left no lock of its own, and all else as it was.
-abbrev pub LeavesNoLock : {Dev : Type 0} {G : Ghosts Dev} → Handle Dev G → Handle Dev G → Type 0
-LeavesNoLock old new = kin_of old ≡ 0 → Sees ShowsSame old new
+module _ {Dev : Type 0} {G : Ghosts Dev} where
+  -- The handle made the fetch in one turn, with this result, after turns in which its lock was refused. It had no other
+  -- turn.
+  abbrev pub Fetches : Owner → ObjectId → Range → Result (List ℕ) PoolError → Handle Dev G → Handle Dev G → Type 0
+  Fetches owner object range result =
+      TakesAtLast (IsFetchTurn (IsTrue G.keeps_model) owner object range None) (IsFetchTurn (IsTrue G.keeps_model) owner object range (Some result))
+
+  -- The only handle of a pool has left no lock of its own, and all else as it was.
+  abbrev pub LeavesNoLock : Handle Dev G → Handle Dev G → Type 0
+  LeavesNoLock old new = kin_of old ≡ 0 → Sees ShowsSame old new

@@ -1,7 +1,7 @@
 -- What contracts say of a pool under its lock, and of its handles.
-use Rattle.std.specs.Prelude.{ℕ, ◌≡◌, ◌≤◌, ◌⊎◌, ◌+◌, ◌/◌, ◌++◌, IsTrue, List, [], ◌∷◌, length, true}
+use Rattle.std.specs.Prelude.{ℕ, ◌≡◌, ◌≤◌, ◌⊎◌, ◌+◌, ◌/◌, ◌++◌, ◌&&◌, Bool, IsTrue, List, [], ◌∷◌, length, nat_le, true}
 use Rattle.base.specs.kept.CrashRule.{KeepsOwn}
-use Rattle.base.specs.kept.Imports.{IsImportOf, is_cache_allowed}
+use Rattle.base.specs.kept.Imports.{IsImportOf, is_dirty_max_allowed}
 use Rattle.base.specs.declared.error.PoolError.{PoolError}
 use Rattle.base.specs.declared.error.PoolError.TheVariants.{NoMemory}
 use Rattle.base.specs.disk.Disk.{Disk, bytes_of, certain}
@@ -222,9 +222,17 @@ pub record ShowsMounted (m : Mounted) (cache_blocks : ℕ) (disk : Disk) (v : Se
   pub cache_is : v.cache_room ≡ cache_blocks
   pub disk_is : v.disk ≡ disk
 
+-- whether so many tree blocks may be the most that stay in memory in a pool that threads share: up to 1 GiB
+abbrev pub is_shared_cache_allowed : ℕ → Bool
+is_shared_cache_allowed count = nat_le 1 count && nat_le count 262144
+
+-- whether a pool that threads share is opened with both limits
+abbrev pub are_shared_limits_allowed : (dirty_max cache_blocks : ℕ) → Bool
+are_shared_limits_allowed dirty_max cache_blocks = is_shared_cache_allowed cache_blocks && is_dirty_max_allowed dirty_max
+
 -- at most so many tree blocks that were read may stay in memory, a number that is allowed
 abbrev pub HasCacheOf : ℕ → SeenPool → Type 0
-HasCacheOf cache_blocks v = (is_cache_allowed cache_blocks ≡ true) × (v.cache_room ≡ cache_blocks)
+HasCacheOf cache_blocks v = (is_shared_cache_allowed cache_blocks ≡ true) × (v.cache_room ≡ cache_blocks)
 
 -- what is told of an import
 abbrev pub opened_of : Mounted → Opened

@@ -32,7 +32,7 @@ use Rattle.pool_threads.specs.Answers.{IsRefusal, Sees, TakesAtLast, TakesOne}
 use Rattle.pool_threads.specs.Handles.{kin_of, moment_of, turns_of}
 use Rattle.pool_threads.specs.Serves.{GoesOnAfter, IsServedTurn}
 use Rattle.pool_threads.specs.Views.{IsPoolStep, SeenPool, viewed_state}
-use Rattle.pool_threads.specs.Waits.{IsSyncingRefusal, WaitsUntil}
+use Rattle.pool_threads.specs.Waits.{IsSyncingRefusal, WaitsForFlush}
 use Rattle.transactions.specs.LockRanges.{lock_ranges}
 use Rattle.transactions.specs.Open.{has_one_open}
 use Rattle.word_lock.specs.declared.rule.Turn.{Turn}
@@ -229,12 +229,13 @@ module _ {Dev : Type 0} {G : Ghosts Dev} where
     pub each : ReleasesInEach had
     pub alone : kin_of old ≡ 0 → Sees AreReleased old new
 
-  -- the handle made a transaction with this receipt, in which it left nothing, and then waited with this result
+  -- the handle made a transaction with this receipt, in which it left nothing, and then waited for a flush, with this
+  -- result
   pub record TransactsThenWaits (owner : Owner) (ops : List Op) (r : Receipt) (result : Result (Unit {0}) PoolError) (old new : Handle Dev G) : Type 0 where
     pub done : Handle Dev G
     pub transacts : TransactsOrLacks owner ops (Ok r) old done
     pub released : LeavesNothing old done
-    pub waits : WaitsUntil r result done new
+    pub waits : WaitsForFlush r result done new
 
   -- Its commit is durable; or the wait for it was refused, with its receipt; or the transaction was, without one.
   abbrev pub TransactsDurably : Owner → List Op → Result Receipt (PoolError × Option Receipt) → Handle Dev G → Handle Dev G → Type 0

@@ -23,11 +23,22 @@ use Rattle.pool_threads.specs.Views.{GrowsTo, SeenPool, viewed_state}
 use Rattle.word_lock.specs.declared.rule.Turn.{Turn}
 use Rattle.word_lock.specs.Turns.{turn}
 
--- This turn changed nothing, and the receipt was checked in it with this result, of a pool that its past explains.
-pub record FindsReceipt (receipt : Receipt) (result : Result Bool PoolError) (t : Turn SeenPool) : Type 0 where
-  pub looked : t.left ≡ t.took
-  pub checked : ChecksReceipt receipt result (viewed_state t.left).shown
+-- At the end of this turn the receipt was checked with this result, of a pool that its past explains.
+pub record FindsReceipt (receipt : Receipt) (found : Result Bool PoolError) (t : Turn SeenPool) : Type 0 where
+  pub checked : ChecksReceipt receipt found (viewed_state t.left).shown
   pub explained : ∥ AreTablesExplained (viewed_state t.left).shown t.left.past ∥₁
+
+-- so it was in a turn that changed nothing
+abbrev pub IsLookTurn : Receipt → Result Bool PoolError → Turn SeenPool → Type 0
+IsLookTurn receipt found t = (t.left ≡ t.took) × FindsReceipt receipt found t
+
+-- so it was in a turn in which the steps were made that were due for the log, the last with this reply
+abbrev pub IsLogTurn : Type 0 → Receipt → Option declared_reply.Reply → Result Bool PoolError → Turn SeenPool → Type 0
+IsLogTurn keeps receipt r found t = IsServedTurn keeps duty.CommitLog r t × FindsReceipt receipt found t
+
+-- the last of these steps was refused so, and the transaction wasn't found durable
+abbrev pub IsRefusedLog : Type 0 → Receipt → PoolError → Turn SeenPool → Type 0
+IsRefusedLog keeps receipt e t = (found : Result Bool PoolError) × (found ≢ Ok true) × IsLogTurn keeps receipt (Some (reply.Refused e)) found t
 
 -- A turn of a sync up to a group, with this moment: what is due for it, and nothing is refused. In the last one the
 -- group is synced, or a step is refused.
@@ -85,6 +96,11 @@ AreDurable at after = (ordinal : ℕ) (e : Entry) → slice_get at.past.entries 
 abbrev pub IsFsyncAllRefusal : ℕ → PoolError → State → State → Type 0
 IsFsyncAllRefusal moment e before after = IsRefusedDuty duty.CommitLog e before after ⊎ ((group : Group) × IsSyncingRefusal moment group e before after)
 
+-- what the last round of a wait finds that ends so
+abbrev pub last_found : Result (Unit {0}) PoolError → Result Bool PoolError
+last_found (Ok done) = Ok true
+last_found (Err e) = Err e
+
 -- the group, or the refusal
 abbrev pub result_of : Group → Result (Unit {0}) PoolError → Result Group PoolError
 result_of group (Ok done) = Ok group
@@ -97,49 +113,63 @@ module _ {Dev : Type 0} {G : Ghosts Dev} where
 
   -- in one turn and no other the handle looked at a receipt with this result
   abbrev pub LooksAt : Receipt → Result Bool PoolError → Handle Dev G → Handle Dev G → Type 0
-  LooksAt receipt found = TakesOne (FindsReceipt receipt found)
+  LooksAt receipt found = TakesOne (IsLookTurn receipt found)
 
   -- in one turn and no other it made the steps that were due for the log, the last with this reply
   abbrev pub WritesLogInTurn : Option declared_reply.Reply → Handle Dev G → Handle Dev G → Type 0
   WritesLogInTurn r = TakesOne (IsServedTurn (IsTrue G.keeps_model) duty.CommitLog r)
 
+  -- so it did, and found the receipt so in the same turn
+  abbrev pub WritesAndFinds : Receipt → Option declared_reply.Reply → Result Bool PoolError → Handle Dev G → Handle Dev G → Type 0
+  WritesAndFinds receipt r found = TakesOne (IsLogTurn (IsTrue G.keeps_model) receipt r found)
+
+  -- a step for the log was refused so, and the transaction wasn't found durable then
+  abbrev pub IsRefusedToWrite : Receipt → PoolError → Handle Dev G → Handle Dev G → Type 0
+  IsRefusedToWrite receipt e = TakesOne (IsRefusedLog (IsTrue G.keeps_model) receipt e)
+
   -- the log found no space, and then the handle synced groups up to the receipt's, with this result
   pub record SyncsInstead (receipt : Receipt) (result : Result (Unit {0}) PoolError) (old new : Handle Dev G) : Type 0 where
     pub full : Handle Dev G
-    pub refused : WritesLogInTurn (Some (reply.Refused NoLogSpace)) old full
+    pub refused : IsRefusedToWrite receipt NoLogSpace old full
     pub syncs : SyncsUpTo receipt.group result full new
 
-  -- What a handle does that leads, with this result: it writes and flushes the log, or syncs groups instead.
-  abbrev pub Leads : Receipt → Result (Unit {0}) PoolError → Handle Dev G → Handle Dev G → Type 0
-  Leads receipt (Ok done) old new = ((r : Option declared_reply.Reply) × GoesOnAfter None r × WritesLogInTurn r old new) ⊎ SyncsInstead receipt (Ok done) old new
-  Leads receipt (Err e) old new = ((e ≢ NoLogSpace) × WritesLogInTurn (Some (reply.Refused e)) old new) ⊎ SyncsInstead receipt (Err e) old new
+  -- What a handle does that leads, and whether the transaction is durable then. In one turn it writes and flushes the
+  -- log, and looks; unless that finds the transaction durable, a refusal of a step is the result. Or it syncs groups
+  -- instead.
+  abbrev pub Leads : Receipt → Result Bool PoolError → Handle Dev G → Handle Dev G → Type 0
+  Leads receipt (Ok true) old new = ((r : Option declared_reply.Reply) × WritesAndFinds receipt r (Ok true) old new) ⊎ SyncsInstead receipt (Ok tt) old new
+  Leads receipt (Ok false) old new = (r : Option declared_reply.Reply) × GoesOnAfter None r × WritesAndFinds receipt r (Ok false) old new
+  Leads receipt (Err e) old new =
+      ((r : Option declared_reply.Reply) × GoesOnAfter None r × WritesAndFinds receipt r (Err e) old new)
+      ⊎ (((e ≢ NoLogSpace) × IsRefusedToWrite receipt e old new) ⊎ SyncsInstead receipt (Err e) old new)
 
-  -- A round of a wait: a look, which finds the transaction not durable; and then the handle leads, or another does.
-  pub record WaitsOnce (receipt : Receipt) (old new : Handle Dev G) : Type 0 where
-    pub looked : Handle Dev G
-    pub looks : LooksAt receipt (Ok false) old looked
-    pub goes_on : (new ≡ looked) ⊎ Leads receipt (Ok tt) looked new
+  -- A round of a wait, and whether the transaction is durable then: the handle leads, or it looks, after another led.
+  abbrev pub WaitsOnce : Receipt → Result Bool PoolError → Handle Dev G → Handle Dev G → Type 0
+  WaitsOnce receipt found old new = LooksAt receipt found old new ⊎ Leads receipt found old new
 
-  -- such rounds, which left the handle so
+  -- such rounds, each of which left the transaction not durable
   abbrev pub Waits : Receipt → List (Handle Dev G) → Handle Dev G → Handle Dev G → Type 0
   Waits receipt [] old now = now ≡ old
-  Waits receipt (h ∷ hs) old now = WaitsOnce receipt old h × Waits receipt hs h now
+  Waits receipt (h ∷ hs) old now = WaitsOnce receipt (Ok false) old h × Waits receipt hs h now
 
-  -- How a wait ends after its last look: that is the result, unless the transaction isn't durable and the handle is
-  -- refused as it leads.
-  abbrev pub EndsAfter : Receipt → Result Bool PoolError → Result (Unit {0}) PoolError → Handle Dev G → Handle Dev G → Type 0
-  EndsAfter receipt (Ok true) result looked new = (result ≡ Ok tt) × (new ≡ looked)
-  EndsAfter receipt (Ok false) result looked new = (e : PoolError) × (result ≡ Err e) × Leads receipt (Err e) looked new
-  EndsAfter receipt (Err e) result looked new = (result ≡ Err e) × (new ≡ looked)
-
-  -- A wait for a receipt: rounds, and a last look after them, with this result.
-  pub record WaitsUntil (receipt : Receipt) (result : Result (Unit {0}) PoolError) (old new : Handle Dev G) : Type 0 where
+  -- A wait for a flush, with this result: rounds, and a last one that is refused, or finds the transaction durable.
+  pub record WaitsForFlush (receipt : Receipt) (result : Result (Unit {0}) PoolError) (old new : Handle Dev G) : Type 0 where
     pub rounds : List (Handle Dev G)
     pub last : Handle Dev G
     pub waits : Waits receipt rounds old last
+    pub ends : WaitsOnce receipt (last_found result) last new
+
+  -- how a wait ends after a first look: it waits for a flush only if the transaction isn't durable
+  abbrev pub EndsAfter : Receipt → Result Bool PoolError → Result (Unit {0}) PoolError → Handle Dev G → Handle Dev G → Type 0
+  EndsAfter receipt (Ok true) result looked new = (result ≡ Ok tt) × (new ≡ looked)
+  EndsAfter receipt (Ok false) result looked new = WaitsForFlush receipt result looked new
+  EndsAfter receipt (Err e) result looked new = (result ≡ Err e) × (new ≡ looked)
+
+  -- A wait for a receipt, with this result: a look, and what follows from it.
+  pub record WaitsUntil (receipt : Receipt) (result : Result (Unit {0}) PoolError) (old new : Handle Dev G) : Type 0 where
     pub found : Result Bool PoolError
     pub looked : Handle Dev G
-    pub looks : LooksAt receipt found last looked
+    pub looks : LooksAt receipt found old looked
     pub ends : EndsAfter receipt found result looked new
 
   -- The handle looked which group was open, and then synced groups up to that one.

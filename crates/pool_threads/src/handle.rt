@@ -11,7 +11,8 @@ use word_lock::Seat;
 /// A thread's access to a pool: its calls read and change the pool, one step at a time.
 ///
 /// Each call takes the pool's lock, makes its step and frees the lock. So a call waits while another thread makes a
-/// step; a flush of a sync is such a step. `transact` makes a whole transaction, of several steps, in one turn.
+/// step; a flush of a sync is such a step. `transact` makes a whole transaction, of several steps, in one turn, and
+/// `fetch` a read under a lock.
 ///
 /// For proofs: a handle is a seat at the pool's lock. Its calls say that its number stays, except for `split`, which
 /// adds 1, and `join`, which adds the number of the handle that it takes in. No call but `join` has a seat from

@@ -7,8 +7,9 @@
 //! [`Pool::open`] opens the pool on a device, and [`Pool::handle`] gives each thread a [`Handle`]. `transact` of a
 //! handle makes a whole transaction in one turn, and `transact_durably` returns once no crash loses it.
 //! `transact_locked` makes one under the caller's locks, and `write_long` makes several for one write. `fetch` reads a
-//! range under a lock. Its other calls are single steps, as those of `PoolState` in `pool_core`; `lock` and `begin`
-//! wait for what others hold. When no handle is left, [`Pool::finish`] syncs the pool and gives the device back.
+//! range under a lock, in one turn too. Its other calls are single steps, as those of `PoolState` in `pool_core`; `lock`
+//! and `begin` wait for what others hold. When no handle is left, [`Pool::finish`] syncs the pool and gives the device
+//! back.
 //!
 //! As each step is made under the pool's lock, other threads wait for a write or a flush.
 //!
@@ -41,6 +42,7 @@
 #![tactic(auto)]
 
 mod answers;
+mod cache_room;
 mod calls;
 mod clients;
 mod debug;

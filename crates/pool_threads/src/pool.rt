@@ -1,6 +1,7 @@
 //! A pool that threads share.
 ghost use Rattle.word_lock.specs.Seats.{IsSourceOf};
 
+use crate::cache_room::{limits_of_import, with_room};
 use crate::first::{first_view, state_behind, view_behind};
 use crate::handle::{Handle, LastSeen};
 use crate::opened::Opened;
@@ -27,17 +28,17 @@ pub struct Pool<D: SectorDevice> {
 
 impl<D: SectorDevice> Pool<D> {
     ghost use Rattle.std.specs.Prelude.{◌≡◌, ◌⊎◌, IfErr, IfOk, IfSome, IsSome, IsTrue};
-    ghost use Rattle.base.specs.kept.Imports.{are_limits_allowed};
     ghost use Rattle.base.specs.disk.Calls.{with_refusal};
     ghost use Rattle.import_replay.specs.ImportRefusals.{IsImportRefusal};
     ghost use Rattle.mounted.specs.ShownMounted.{shown_of_import};
     ghost use Rattle.pool_core.specs.States.{device_of, shown};
     ghost use Rattle.pool_threads.specs.Finishes.{Finishes};
-    ghost use Rattle.pool_threads.specs.Handles.{HasCacheOf, IsLastState, IsLaterState, IsLeftByOpen, IsNewHandle, IsReadyToOpen, LeavesSame, OpensBehind, ShowsImport, ShowsMounted, StartsBehind, WasOf, kin_left, moment_in, opened_in, opened_of, opening_view, shared_of};
+    ghost use Rattle.pool_threads.specs.Handles.{HasCacheOf, IsLastState, IsLaterState, IsLeftByOpen, IsNewHandle, IsReadyToOpen, LeavesSame, OpensBehind, ShowsImport, ShowsMounted, StartsBehind, WasOf, are_shared_limits_allowed, kin_left, moment_in, opened_in, opened_of, opening_view, shared_of};
     ghost use Rattle.pool_threads.specs.Views.{Explains, SeenPool};
 
     /// Opens the pool on a device, as often as one likes: this is the way in for a program. The pool takes the device,
-    /// and holds no more in memory than the limits say.
+    /// and holds no more in memory than the limits say. Its cache may have 1 to
+    /// [`GREATEST_SHARED_CACHE_BLOCKS`](import_replay::GREATEST_SHARED_CACHE_BLOCKS) blocks.
     ///
     /// The moment is a time in seconds, or 0 if no clock is read. It is stored in the uberblocks of this import, and in
     /// those of the syncs that handles start.
@@ -63,7 +64,7 @@ impl<D: SectorDevice> Pool<D> {
         ensures moment { IfOk result (λ p. moment_in (shared_of p) ≡ moment) }
         ensures cache { IfOk result (λ p. HasCacheOf limits.cache_blocks (opening_view (shared_of p))) }
         ensures refused { IfErr result (λ e. IsImportRefusal (D.size device)
-            (are_limits_allowed limits.dirty_max limits.cache_blocks) e.0) }
+            (are_shared_limits_allowed limits.dirty_max limits.cache_blocks) e.0) }
         ensures counted { IfErr result
             (λ e. D.refused e.1 ≡ with_refusal e.0 (D.refused device)) }
         ensures untouched { IfErr result
@@ -74,8 +75,8 @@ impl<D: SectorDevice> Pool<D> {
             → IfErr result (λ e. LeavesSame (D.disk device) (D.disk e.1)) }
     {
         let before = Snapshot::of(&device);
-        let imported = match import(alloc, device, limits, moment) {
-            Ok(imported) => imported,
+        let imported = match import(alloc, device, limits_of_import(limits), moment) {
+            Ok(imported) => with_room(imported, limits.cache_blocks),
             Err(refused) => return Err(refused),
         };
         match Pool::share_after(imported, moment, &before) {

@@ -5,7 +5,7 @@
 //!
 //! | who sleeps | by which bell | who rings |
 //! |---|---|---|
-//! | a lock or a `transact` that is refused `Busy` | `ranges` | an unlock |
+//! | a lock, a `transact` or a `fetch` that is refused `Busy` | `ranges` | an unlock |
 //! | a `begin` that is throttled, and a `transact` beside loops | `room` | an abort, the end of a sync, and of a loop |
 //! | a sync and the quiescer, while transactions of a closed group are open | `bells.ended` | a commit and an abort |
 //! | a `transact` without loops, while such transactions are open | `bells.ended` | the same |
@@ -14,7 +14,7 @@
 //! | a handle that waits until a commit is durable | that of the rounds (`Flushers`) | the leader of a round |
 //! | a leader that waits for other handles | none (`Flushers`) | the last handle that it expects |
 //!
-//! A `transact` rings for nobody: no other thread has seen its locks or its transaction (`one_turn.rt`).
+//! A `transact` and a `fetch` ring for nobody: no other thread has seen their locks (`one_turn.rt`, `fetch.rt`).
 //!
 //! A write or a flush that is refused suspends the pool, and rings for all that wait for others' steps.
 ghost use Rattle.std.specs.Prelude.{◌≡◌, IfErr, IfOk, IfSome, IsSome};

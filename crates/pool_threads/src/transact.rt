@@ -127,6 +127,9 @@ impl<'p, D: SectorDevice> Handle<'p, D> {
 
     /// Commits operations as `transact` does, and returns once the commit is durable, as `fsync` does.
     ///
+    /// It takes two turns of the pool's lock if it is not made to wait, and no other handle writes the log: one for the
+    /// transaction, and one that writes the log, flushes it, and looks whether the commit is durable.
+    ///
     /// A commit that is durable is charged until its group is synced. At the dirty limit it waits, or makes the steps
     /// of a sync, as `transact` does.
     ///
@@ -147,7 +150,8 @@ impl<'p, D: SectorDevice> Handle<'p, D> {
             Ok(receipt) => receipt,
             Err(error) => return Err((error, None)),
         };
-        match self.fsync(rt, receipt) {
+        self.shared.flushers.enter();
+        match self.wait_for_flush(rt, receipt) {
             Ok(()) => Ok(receipt),
             Err(error) => Err((error, Some(receipt))),
         }

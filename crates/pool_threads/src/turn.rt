@@ -1,7 +1,8 @@
 //! One step on the pool of a lock, and the view after it.
 //!
 //! Every call of a handle goes through `step_noted`, which makes it and goes on to the view after it. `turn` and
-//! `retried_turn` have it made while a seat has the lock, and free the lock. `one_turn.rt` makes a transaction so.
+//! `retried_turn` have it made while a seat has the lock, and free the lock. `one_turn.rt` makes a transaction so, and
+//! `fetch.rt` a read under a lock.
 ghost use Rattle.std.specs.Prelude.{◌≡◌, IsSome, IsTrue, MatchOption, IfErr, Err, false, true};
 ghost use Rattle.base.specs.steps.Tables.{AreTablesExplained};
 ghost use Rattle.base.specs.steps.Runs.{reply_of};
@@ -9,12 +10,14 @@ ghost use Rattle.base.specs.steps.SyncEnds.{IsAnswer};
 ghost use Rattle.word_lock.specs.Seats.{IsAsBefore, IsHolding, IsIdle, IsSameSeat, kin, lock_table, seat_table, seen};
 ghost use Rattle.pool_core.specs.States.{shown};
 ghost use Rattle.pool_threads.specs.Serves.{HasServed, MakesDue};
-ghost use Rattle.pool_threads.specs.Turns.{HasMade, HasStepped};
+ghost use Rattle.pool_threads.specs.Turns.{HasDone, HasMade, HasStepped};
 ghost use Rattle.pool_threads.specs.Views.{Explains, IsPoolStep, view_after, viewed_state};
+ghost use Rattle.pool_threads.specs.Waits.{IsLogTurn};
+ghost use Rattle.word_lock.specs.Turns.{turn};
 
 use crate::retries::RetriedCall;
 use crate::rule::{PoolRule, PoolView};
-use base::{Group, PoolError, Reply, Step, Told};
+use base::{Group, PoolError, Receipt, Reply, Step, Told};
 use device_model::SectorDevice;
 use pool_core::{Duty, PoolCall, PoolState};
 use std::snapshot::Snapshot;
@@ -141,6 +144,31 @@ pub(crate) fn serve_turn<'s, 'l, D: SectorDevice>(
     let status = value.status();
     seat.put_back(lock, value, &view);
     (reply, status.synced, status.available)
+}
+
+/// Makes the steps that are due for the log on the pool of a lock that a seat has, looks at a receipt, and frees the
+/// lock: the reply of the last step, whether the transaction is durable, and how many blocks are available.
+pub(crate) fn log_turn<'s, 'l, D: SectorDevice>(
+    guard: Guard<'s, 'l, Box<PoolState<D>>, PoolRule<D>>,
+    receipt: Receipt,
+) -> (Option<Reply>, Result<bool, PoolError>, u64)
+    requires own { seat_table guard.seat.now ≡ lock_table guard.lock.now }
+    requires held { IsHolding guard.seat.now }
+    requires view { guard.held.view.value ≡ seen guard.seat.now }
+    requires explains { Explains guard.held.value.value guard.held.view.value }
+    ensures same { IsSameSeat guard.entry.seat.now guard.exit.0.now × IsIdle guard.exit.0.now }
+    ensures done { HasDone
+        (λ v w. IsLogTurn (IsTrue D.keeps_model) receipt result.0 result.1 (turn v w))
+        guard.entry.seat.now guard.exit.0.now }
+{
+    let Guard { seat, lock, held } = guard;
+    let mut held = held;
+    let reply = serve_noted(&mut held, Duty::CommitLog);
+    let Held { value, view } = held;
+    let found = value.check_receipt(receipt);
+    let available = value.status().available;
+    seat.put_back(lock, value, &view);
+    (reply, found, available)
 }
 
 // Makes the steps that are due one after another, up to one after which none is due at once, and goes on to the view

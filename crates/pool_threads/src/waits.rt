@@ -3,7 +3,8 @@
 //! 1. A transaction is durable once its log block is flushed, or once its group is synced. So `fsync` writes the log
 //!    and flushes it; if the log finds no block, it syncs groups instead (`zil_commit` of `zil.c`, which then waits for
 //!    `txg_wait_synced`).
-//! 2. Handles that wait at once share one flush: one of them leads (`Flushers` of `bells`).
+//! 2. Handles that wait at once share one flush: one of them leads (`Flushers` of `bells`). It looks at its receipt in
+//!    the turn in which it writes and flushes. The others look once it has led.
 //! 3. In each turn only steps are made that are due then, so no step is refused `NotReady`, except a close at the last
 //!    group. While transactions of the closed group are open nothing is due, and the call rests.
 
@@ -14,10 +15,10 @@ ghost use Rattle.base.specs.steps.Tables.{AreTablesExplained};
 ghost use Rattle.pool_threads.specs.Answers.{Sees, TakesOne, state_seen};
 ghost use Rattle.pool_threads.specs.Handles.{HasLooked, moment_of};
 ghost use Rattle.pool_threads.specs.Serves.{IsServedTurn};
-ghost use Rattle.pool_threads.specs.Waits.{IsSyncingRefusal, IsWaitingRefusal, Leads, LeavesDurable, LooksAt, SyncsPool, SyncsUpTo, WaitsUntil};
+ghost use Rattle.pool_threads.specs.Waits.{IsSyncingRefusal, IsWaitingRefusal, Leads, LeavesDurable, LooksAt, SyncsPool, SyncsUpTo, WaitsForFlush, WaitsOnce, WaitsUntil, WritesAndFinds};
 
 use crate::handle::Handle;
-use crate::turn::serve_turn;
+use crate::turn::{log_turn, serve_turn};
 use base::{Group, PoolError, Receipt, Reply};
 use crossbeam_utils::Backoff;
 use device_model::SectorDevice;
@@ -57,6 +58,7 @@ impl<'p, D: SectorDevice> Handle<'p, D> {
         self.wait_until_durable(rt, receipt)
     }
 
+    // Looks whether the transaction of a receipt is durable, and waits for a flush if it isn't.
     fn wait_until_durable<'a, 'b, W: Wait>(
         &'a mut self,
         rt: &'b W,
@@ -64,18 +66,42 @@ impl<'p, D: SectorDevice> Handle<'p, D> {
     ) -> Result<(), PoolError>
         ensures { WaitsUntil receipt result self.old self.new }
     {
+        if self.check_receipt(rt, receipt)? {
+            return Ok(());
+        }
+        self.wait_for_flush(rt, receipt)
+    }
+
+    /// Waits until the transaction of a receipt is durable, as `fsync`, without a first look. The handle has entered.
+    pub(crate) fn wait_for_flush<'a, 'b, W: Wait>(
+        &'a mut self,
+        rt: &'b W,
+        receipt: Receipt,
+    ) -> Result<(), PoolError>
+        ensures { WaitsForFlush receipt result self.old self.new }
+    {
         for _ in rt.forever() {
-            let rounds = self.shared.flushers.rounds();
-            if self.check_receipt(rt, receipt)? {
+            if self.wait_once(rt, receipt)? {
                 return Ok(());
-            }
-            if self.shared.flushers.try_lead() {
-                self.lead(rt, receipt)?;
-            } else {
-                self.shared.flushers.rest(rt, rounds);
             }
         }
         unreachable!()
+    }
+
+    // Leads if no other handle does. Else it rests until that one has led, and looks.
+    fn wait_once<'a, 'b, W: Wait>(
+        &'a mut self,
+        rt: &'b W,
+        receipt: Receipt,
+    ) -> Result<bool, PoolError>
+        ensures { WaitsOnce receipt result self.old self.new }
+    {
+        let rounds = self.shared.flushers.rounds();
+        if self.shared.flushers.try_lead() {
+            return self.lead(rt, receipt);
+        }
+        self.shared.flushers.rest(rt, rounds);
+        self.check_receipt(rt, receipt)
     }
 
     // Looks whether the transaction of a receipt is durable, in one turn.
@@ -92,20 +118,43 @@ impl<'p, D: SectorDevice> Handle<'p, D> {
         checked
     }
 
-    // Writes and flushes the log for all that wait. If the log finds no block, it syncs groups up to the receipt's.
-    fn lead<'a, 'b, W: Wait>(&'a mut self, rt: &'b W, receipt: Receipt) -> Result<(), PoolError>
+    // Writes and flushes the log for all that wait, and looks, in one turn. If the log finds no block, it syncs groups up
+    // to the receipt's, which makes the transaction durable too.
+    fn lead<'a, 'b, W: Wait>(&'a mut self, rt: &'b W, receipt: Receipt) -> Result<bool, PoolError>
         ensures { Leads receipt result self.old self.new }
     {
         self.shared.flushers.gather(rt);
-        let (reply, _) = self.serve(rt, Duty::CommitLog);
+        let (reply, found) = self.write_log(rt, receipt);
         self.shared.flushers.retire();
         let Some(Reply::Refused(error)) = reply else {
-            return Ok(());
+            return found;
         };
-        if error == PoolError::NoLogSpace {
-            return self.sync_up_to(rt, receipt.group);
+        if matches!(found, Ok(true)) {
+            return Ok(true);
         }
-        Err(error)
+        if error != PoolError::NoLogSpace {
+            return Err(error);
+        }
+        match self.sync_up_to(rt, receipt.group) {
+            Ok(()) => Ok(true),
+            Err(error) => Err(error),
+        }
+    }
+
+    // Makes the steps that are due for the log and then looks, in one turn: the reply of the last step, and whether the
+    // transaction of the receipt is durable.
+    fn write_log<'a, 'b, W: Wait>(
+        &'a mut self,
+        rt: &'b W,
+        receipt: Receipt,
+    ) -> (Option<Reply>, Result<bool, PoolError>)
+        ensures { WritesAndFinds receipt result.0 result.1 self.old self.new }
+    {
+        let guard = self.seat.acquire(rt, &self.shared.lock);
+        let (reply, found, available) = log_turn(guard, receipt);
+        self.shared.bells.note_available(available);
+        self.shared.note_last(&reply);
+        (reply, found)
     }
 
     /// Syncs the group that is open, and returns it. All that was committed before is then durable. It writes no log

@@ -1,5 +1,5 @@
 -- What callers take from waits that are not in vain: which locks and transactions of their owner there are then.
-use Rattle.std.proofs.Common.{◌≡◌, ◌≢◌, ◌∷◌, [], ◌&&◌, ◌||◌, Bool, true, false, not, ℕ, List, append_assoc, inl, inr, length, ap, refl, sym, ◌++◌, ◌∙◌}
+use Rattle.std.proofs.Common.{◌≡◌, ◌≢◌, ◌∷◌, [], ◌&&◌, ◌||◌, Bool, true, false, not, ℕ, List, inl, inr, length, ap, refl, sym, ◌++◌, ◌∙◌}
 use Rattle.std.specs.Prelude.{◌==◌, ◌⊎◌, All, Err, IfErr, IfOk, IsTrue, None, Ok, Option, Result, Some, is_none, slice_get}
 use Rattle.std.specs.List.{list_any}
 use Rattle.std.proofs.lemmas.Bool.{and_parts, eq-eqb, eqb-true, false≢true, or_parts, false_from_ne_true}
@@ -28,7 +28,7 @@ use Rattle.pool_tables.specs.BeginTests.{is_above_limit}
 use Rattle.pool_tables.specs.Duties.{keeps_whole_log}
 use Rattle.pool_threads.specs.declared.handle.Handle.{Handle}
 use Rattle.pool_threads.specs.Answers.{WaitsWhileNot}
-use Rattle.pool_threads.specs.Fetches.{Fetches, ReadsUnderLock, WaitsToRead}
+use Rattle.pool_threads.specs.Fetches.{Fetches, IsFetchTurn}
 use Rattle.pool_threads.specs.Handles.{moment_of, turns_of, view_seen}
 use Rattle.pool_threads.specs.Transacts.{IsEarlierTurn, IsPayingTurn, IsRetried, TransactsOrLacks, is_in_vain, plan_of_ops}
 use Rattle.pool_threads.specs.Vain.{IsInOwnWay, IsThrottledInVain}
@@ -112,38 +112,23 @@ module _ {Dev : Type 0} {G : Ghosts Dev} (owner : Owner) (old new : Handle Dev G
         (λ t never. none_of_own owner.0 r (viewed_state t.left).shown.locks (false_from_ne_true (is_blocked_by_own owner.0 r Writer (viewed_state t.left).shown.locks) never)) w.had w.each,
   )
 
-  -- a fetch waits so for its lock, and has three turns then, or one if the lock is refused
+  -- a fetch waits so for its lock
   module _ (n : ObjectId) (range : Range) where
     abbrev pub LeavesNoOwnWriter : Turn SeenPool → Type 0
     LeavesNoOwnWriter t = (i : ℕ) (g : Grant) → slice_get (viewed_state t.left).shown.locks i ≡ Some g → g.owner ≡ owner.0 → overlaps g.range (object_range n.0 range.low range.high) ≡ true → g.mode ≡ Reader
 
-    abbrev pub WaitsFirst : Type 0
-    WaitsFirst = (had : List (Turn SeenPool)) × (rest : List (Turn SeenPool)) × (turns_of new ≡ (turns_of old ++ had) ++ rest) × ((length rest ≡ 1) ⊎ (length rest ≡ 3)) × All LeavesNoOwnWriter had
-
-    each_in_time : (at : Handle Dev G) (w : WaitsToRead owner n range old at) → All LeavesNoOwnWriter w.had
-    each_in_time at w =
+    no_own_writer : (t : Turn SeenPool) → IsFetchTurn (IsTrue G.keeps_model) owner n range None t → LeavesNoOwnWriter t
+    no_own_writer t (refused, free) =
         let r : NumberRange = object_range n.0 range.low range.high in
-        All-weaker (λ (t : Turn SeenPool). IsInOwnWay owner r Reader (viewed_state t.left).shown → ⊥) LeavesNoOwnWriter
-        (λ t never. none_of_own_writer owner.0 r (viewed_state t.left).shown.locks (false_from_ne_true (is_blocked_by_own owner.0 r Reader (viewed_state t.left).shown.locks) never)) w.had w.each
+        none_of_own_writer owner.0 r (viewed_state t.left).shown.locks (false_from_ne_true (is_blocked_by_own owner.0 r Reader (viewed_state t.left).shown.locks) free)
 
-    read_waits : (result : Result (List ℕ) PoolError) → ReadsUnderLock owner n range result old new → WaitsFirst
-    read_waits result t =
-        let w = t.in_time in
-        let before : List (Turn SeenPool) = turns_of old ++ w.had in
-        let reads : Turn SeenPool = turn t.reads.made.took (view_seen t.read) in
-        let unlocks : Turn SeenPool = turn t.unlocks.made.took (view_seen new) in (
-          w.had,
-          w.last ∷ reads ∷ unlocks ∷ [],
-          t.unlocks.made.turn ∙ ap (λ (ts : List (Turn SeenPool)). ts ++ unlocks ∷ []) (t.reads.made.turn ∙ ap (λ (ts : List (Turn SeenPool)). ts ++ reads ∷ []) w.turns ∙ append_assoc before (w.last ∷ []) (reads ∷ []))
-              ∙ append_assoc before (w.last ∷ reads ∷ []) (unlocks ∷ []),
-          inr refl,
-          each_in_time t.locked w,
-        )
-
-    pub fetch_waits : (result : Result (List ℕ) PoolError) → Fetches owner n range result old new → WaitsFirst
-    fetch_waits (Ok bytes) t = read_waits (Ok bytes) t
-    fetch_waits (Err e) (inl (m, w)) = (w.had, w.last ∷ [], w.turns, inl refl, each_in_time new w)
-    fetch_waits (Err e) (inr t) = read_waits (Err e) t
+    pub fetch_waits : (result : Result (List ℕ) PoolError) → Fetches owner n range result old new → Waits LeavesNoOwnWriter
+    fetch_waits result u = (
+      u.made.had,
+      turn u.made.took (view_seen new),
+      u.made.turn,
+      All-weaker (IsFetchTurn (IsTrue G.keeps_model) owner n range None) LeavesNoOwnWriter no_own_writer u.made.had u.made.each,
+    )
 
   without_room : (plan : List Shape) (s : Shown) → (IsThrottledInVain owner plan s → ⊥) → has_one_open owner.0 s.transactions ≡ false
   without_room plan s never = (or_parts (is_above_limit plan s) (has_one_open owner.0 s.transactions) (false_from_ne_true (is_above_limit plan s || has_one_open owner.0 s.transactions) never)).1

@@ -19,10 +19,11 @@ use Rattle.pool_threads.specs.Answers.{Takes, TakesOne}
 use Rattle.pool_threads.specs.Handles.{moment_of, turns_of, view_seen}
 use Rattle.pool_threads.specs.Serves.{AreDue, IsServedTurn}
 use Rattle.pool_threads.specs.Views.{GrowsTo, SeenPool, grows_same, viewed_state}
-use Rattle.pool_threads.specs.Waits.{EndsAfter, EndsSyncing, LooksAt, SyncsPool, SyncsUpTo, Waits, WaitsUntil, result_of}
+use Rattle.pool_threads.specs.Waits.{EndsAfter, EndsSyncing, LooksAt, SyncsInstead, SyncsPool, SyncsUpTo, Waits, WaitsForFlush, WaitsOnce, WaitsUntil, last_found, result_of}
 use Rattle.pool_threads.proofs.Looked.{looked_one}
 use Rattle.pool_threads.proofs.Served.{grows_by_due}
-use Rattle.pool_threads.proofs.Waited.{LeadsOn, LooksOrServes, TakesAnyAtLast, all_alike, ends_as, ends_on, lead_turns, more_leads_on, round_rest, served_as, sync_turns, takes_as, takes_on, whole_wait}
+use Rattle.pool_threads.proofs.Waited.{LeadsOn, LooksOrServes, TakesAnyAtLast, all_alike, ends_as, ends_on, flush_wait, more_leads_on, served_as, sync_turns, takes_as, takes_on, whole_wait}
+use Rattle.pool_threads.proofs.WaitsSeen.{not_found}
 use Rattle.pool_threads.proofs.Tried.{no_turns, one_more_turn}
 use Rattle.word_lock.specs.declared.rule.Turn.{Turn}
 use Rattle.word_lock.specs.Turns.{turn}
@@ -102,7 +103,7 @@ module _ {Dev : Type 0} {G : Ghosts Dev} where
       FoundDurable = is_durable (viewed_state l.made.took).shown receipt.ordinal.0 receipt.group.0 ≡ true
 
       first_turn : turns_of looked ≡ turns_of old ++ turn l.made.took l.made.took ∷ []
-      first_turn = l.made.turn ∙ ap (λ (v : SeenPool). turns_of old ++ turn l.made.took v ∷ []) l.made.made.looked
+      first_turn = l.made.turn ∙ ap (λ (v : SeenPool). turns_of old ++ turn l.made.took v ∷ []) l.made.made.0
 
       -- nothing comes after it
       looks_only : new ≡ looked → (FoundDurable → result ≡ Ok tt) → LooksFirst result old new
@@ -128,21 +129,61 @@ module _ {Dev : Type 0} {G : Ghosts Dev} where
 
       shown_there : (b : Bool) → is_durable (viewed_state (view_seen looked)).shown receipt.ordinal.0 receipt.group.0 ≡ b → b ≡ false → FoundDurable → ⊥
       shown_there b is not_so there =
-          false≢true (sym not_so ∙ sym is ∙ ap (λ (v : SeenPool). is_durable (viewed_state v).shown receipt.ordinal.0 receipt.group.0) l.made.made.looked ∙ there)
+          false≢true (sym not_so ∙ sym is ∙ ap (λ (v : SeenPool). is_durable (viewed_state v).shown receipt.ordinal.0 receipt.group.0) l.made.made.0 ∙ there)
 
     ends_first : (found : Result Bool PoolError) (result : Result (Unit {0}) PoolError) (old looked new : Handle Dev G) → LooksAt receipt found old looked → EndsAfter receipt found result looked new → LooksFirst result old new
     ends_first (Ok true) result old looked new l ends = looks_only (Ok true) result old looked new l ends.1 (λ _. ends.0)
     ends_first (Ok false) result old looked new l ends =
-        looks_and_more (Ok false) result old looked new l (lead_turns receipt (Err ends.0) ends.2) (shown_there (Ok false) result old looked new l false (sym l.made.made.checked.0) refl)
+        looks_and_more (Ok false) result old looked new l (flush_wait receipt result ends) (shown_there (Ok false) result old looked new l false (sym l.made.made.1.checked.0) refl)
     ends_first (Err e) result old looked new l ends =
-        looks_only (Err e) result old looked new l ends.1 (λ is. absurd (shown_there (Err e) result old looked new l false l.made.made.checked.0 refl is))
+        looks_only (Err e) result old looked new l ends.1 (λ is. absurd (shown_there (Err e) result old looked new l false l.made.made.1.checked.0 refl is))
 
     pub looks_first : (result : Result (Unit {0}) PoolError) (old new : Handle Dev G) → WaitsUntil receipt result old new → LooksFirst result old new
-    looks_first result old new w = by w.rounds w.waits
+    looks_first result old new w = ends_first w.found result old w.looked new w.looks w.ends
+
+    -- a wait for a flush has no turn after a first one that leaves the transaction durable
+    abbrev pub EndsAtOnce : Handle Dev G → Handle Dev G → Type 0
+    EndsAtOnce old new = (took : SeenPool) × (left : SeenPool) × (rest : List (Turn SeenPool)) × (turns_of new ≡ (turns_of old ++ turn took left ∷ []) ++ rest)
+        × (is_durable (viewed_state left).shown receipt.ordinal.0 receipt.group.0 ≡ true → rest ≡ [])
+
+    -- one turn alone
+    once_only : {P : Turn SeenPool → Type 0} (old new : Handle Dev G) → TakesOne P old new → EndsAtOnce old new
+    once_only old new m = (m.made.took, view_seen new, [], m.made.turn ∙ sym (append-nil (turns_of old ++ turn m.made.took (view_seen new) ∷ [])), λ is. refl)
+
+    -- one that didn't leave it durable, and more
+    once_and_more : {P : Turn SeenPool → Type 0} (old now new : Handle Dev G) → TakesOne P old now → is_durable (viewed_state (view_seen now)).shown receipt.ordinal.0 receipt.group.0 ≡ false → TakesAnyAtLast now new → EndsAtOnce old new
+    once_and_more old now new m none u =
+        let rest : List (Turn SeenPool) = u.made.had ++ turn u.made.took (view_seen new) ∷ [] in (
+          m.made.took,
+          view_seen now,
+          rest,
+          u.made.turn ∙ append_assoc (turns_of now) u.made.had (turn u.made.took (view_seen new) ∷ []) ∙ ap (λ (ts : List (Turn SeenPool)). ts ++ rest) m.made.turn,
+          λ is. absurd (false≢true (sym none ∙ is)),
+        )
+
+    synced_and_more : (result : Result (Unit {0}) PoolError) (old new : Handle Dev G) → SyncsInstead receipt result old new → EndsAtOnce old new
+    synced_and_more result old new s =
+        once_and_more old s.full new s.refused (not_found receipt s.refused.made.made.0 (turn s.refused.made.took (view_seen s.full)) s.refused.made.made.2.1 s.refused.made.made.1) (sync_turns receipt.group result s.syncs)
+
+    round_at_once : (found : Result Bool PoolError) (old new : Handle Dev G) → WaitsOnce receipt found old new → EndsAtOnce old new
+    round_at_once found old new (inl look) = once_only old new look
+    round_at_once (Ok true) old new (inr (inl (r, m))) = once_only old new m
+    round_at_once (Ok true) old new (inr (inr s)) = synced_and_more (Ok tt) old new s
+    round_at_once (Ok false) old new (inr (r, passed, m)) = once_only old new m
+    round_at_once (Err e) old new (inr (inl (r, passed, m))) = once_only old new m
+    round_at_once (Err e) old new (inr (inr (inl (other, m)))) = once_only old new m
+    round_at_once (Err e) old new (inr (inr (inr s))) = synced_and_more (Err e) old new s
+
+    -- a round that finds it not durable is one turn
+    round_and_more : (old now new : Handle Dev G) → WaitsOnce receipt (Ok false) old now → TakesAnyAtLast now new → EndsAtOnce old new
+    round_and_more old now new (inl look) u = once_and_more old now new look (sym look.made.made.1.checked.0) u
+    round_and_more old now new (inr (r, passed, m)) u = once_and_more old now new m (sym m.made.made.1.checked.0) u
+
+    pub ends_at_once : (result : Result (Unit {0}) PoolError) (old new : Handle Dev G) → WaitsForFlush receipt result old new → EndsAtOnce old new
+    ends_at_once result old new w = by w.rounds w.waits
       where
-        by : (rounds : List (Handle Dev G)) → Waits receipt rounds old w.last → LooksFirst result old new
-        by [] same = ends_first w.found result old w.looked new (subst (λ (h : Handle Dev G). LooksAt receipt w.found h w.looked) same w.looks) w.ends
+        by : (rounds : List (Handle Dev G)) → Waits receipt rounds old w.last → EndsAtOnce old new
+        by [] same = subst (λ (h : Handle Dev G). EndsAtOnce h new) same (round_at_once (last_found result) w.last new w.ends)
         by (h ∷ hs) (first, rest) =
-            let later : WaitsUntil receipt result h new = record { rounds = hs; last = w.last; waits = rest; found = w.found; looked = w.looked; looks = w.looks; ends = w.ends } in
-            looks_and_more (Ok false) result old first.looked new first.looks (ends_on (round_rest receipt first) (whole_wait receipt result later))
-            (shown_there (Ok false) result old first.looked new first.looks false (sym first.looks.made.made.checked.0) refl)
+            let later : WaitsForFlush receipt result h new = record { rounds = hs; last = w.last; waits = rest; ends = w.ends } in
+            round_and_more old h new first (flush_wait receipt result later)

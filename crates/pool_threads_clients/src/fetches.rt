@@ -1,8 +1,7 @@
 //! What callers rest on of `fetch`.
 
-ghost use Rattle.std.specs.Prelude.{◌≡◌, ◌⊎◌, IfErr, IfOk, IsTrue, Result};
+ghost use Rattle.std.specs.Prelude.{◌≡◌, ◌⊎◌, ◌++◌, [], ◌∷◌, IfErr, IfOk, IsTrue, List, Result};
 ghost use Rattle.base.specs.declared.error.PoolError.{PoolError};
-ghost use Rattle.base.specs.declared.error.PoolError.TheVariants as error;
 ghost use Rattle.base.specs.declared.names.LockId.{LockId};
 ghost use Rattle.base.specs.declared.range.Mode.TheVariants.{Reader};
 ghost use Rattle.base.specs.declared.step.Reply.TheVariants as reply;
@@ -10,29 +9,36 @@ ghost use Rattle.base.specs.declared.step.Step.TheVariants as step;
 ghost use Rattle.base.specs.steps.Refusals.{object_range};
 ghost use Rattle.base.specs.steps.Runs.{reply_of};
 ghost use Rattle.base.specs.steps.Seen.{IsReadBetween};
-ghost use Rattle.pool_threads.specs.Answers.{Makes, MakesAtLast, Sees};
-ghost use Rattle.pool_threads.specs.Handles.{kin_of};
-ghost use Rattle.pool_threads.specs.declared.handle.Handle.{Handle};
+ghost use Rattle.pool_threads.specs.Answers.{Sees};
+ghost use Rattle.pool_threads.specs.Handles.{kin_of, turns_of, view_seen};
+ghost use Rattle.pool_threads.specs.Views.{IsPoolStep, SeenPool};
+ghost use Rattle.word_lock.specs.declared.rule.Turn.{Turn};
+ghost use Rattle.word_lock.specs.Turns.{turn};
 
 use base::{Bytes, ObjectId, Owner, PoolError, Range};
 use device_model::SectorDevice;
 use pool_threads::Handle;
 use std::sync::Wait;
 
-// These are all its steps: nothing lies between them but tries that were refused.
-fn a_fetch_locks_reads_and_unlocks<D: SectorDevice, W: Wait>(
+// These are all the steps of its last turn, and no other thread has the pool between them.
+fn a_fetch_locks_reads_and_unlocks_in_one_turn<D: SectorDevice, W: Wait>(
     rt: &W,
     handle: &mut Handle<'_, D>,
     owner: Owner,
     object: ObjectId,
     range: Range,
 ) -> Result<Bytes, PoolError>
-    ensures { IfOk result (λ b. (id : LockId) × (answer : Result (Unit {0}) PoolError)
-        × (locked : Handle _ _) × (done : Handle _ _)
-        × MakesAtLast (step.Lock owner object range Reader) error.Busy (reply.Locked id)
-        handle.old locked
-        × Makes (step.Read owner object range) (reply.Bytes b) locked done
-        × Makes (step.Unlock owner id) (reply_of (λ _. reply.Done) answer) done handle.new) }
+    ensures { IfOk result (λ b. (tries : List (Turn SeenPool)) × (took : SeenPool)
+        × (turns_of handle.new
+        ≡ (turns_of handle.old ++ tries) ++ turn took (view_seen handle.new) ∷ [])
+        × (id : LockId) × (answer : Result (Unit {0}) PoolError)
+        × (locked : SeenPool) × (read : SeenPool)
+        × IsPoolStep (IsTrue D.keeps_model) (step.Lock owner object range Reader)
+        (reply.Locked id) took locked
+        × IsPoolStep (IsTrue D.keeps_model) (step.Read owner object range) (reply.Bytes b)
+        locked read
+        × IsPoolStep (IsTrue D.keeps_model) (step.Unlock owner id)
+        (reply_of (λ _. reply.Done) answer) read (view_seen handle.new)) }
 {
     handle.fetch(rt, owner, object, range)
 }
@@ -45,14 +51,33 @@ fn a_refused_fetch_unlocks_what_it_locked<D: SectorDevice, W: Wait>(
     object: ObjectId,
     range: Range,
 ) -> Result<Bytes, PoolError>
-    ensures { IfErr result (λ e. MakesAtLast (step.Lock owner object range Reader) error.Busy
-        (reply.Refused e) handle.old handle.new
+    ensures { IfErr result (λ e. (tries : List (Turn SeenPool)) × (took : SeenPool)
+        × (turns_of handle.new
+        ≡ (turns_of handle.old ++ tries) ++ turn took (view_seen handle.new) ∷ [])
+        × (IsPoolStep (IsTrue D.keeps_model) (step.Lock owner object range Reader)
+        (reply.Refused e) took (view_seen handle.new)
         ⊎ ((id : LockId) × (answer : Result (Unit {0}) PoolError)
-        × (locked : Handle _ _) × (done : Handle _ _)
-        × MakesAtLast (step.Lock owner object range Reader) error.Busy (reply.Locked id)
-        handle.old locked
-        × Makes (step.Read owner object range) (reply.Refused e) locked done
-        × Makes (step.Unlock owner id) (reply_of (λ _. reply.Done) answer) done handle.new)) }
+        × (locked : SeenPool) × (read : SeenPool)
+        × IsPoolStep (IsTrue D.keeps_model) (step.Lock owner object range Reader)
+        (reply.Locked id) took locked
+        × IsPoolStep (IsTrue D.keeps_model) (step.Read owner object range) (reply.Refused e)
+        locked read
+        × IsPoolStep (IsTrue D.keeps_model) (step.Unlock owner id)
+        (reply_of (λ _. reply.Done) answer) read (view_seen handle.new)))) }
+{
+    handle.fetch(rt, owner, object, range)
+}
+
+// Nothing lies between two tries of its own, so it would be refused again: it doesn't try twice.
+fn a_fetch_of_the_only_handle_takes_one_turn<D: SectorDevice, W: Wait>(
+    rt: &W,
+    handle: &mut Handle<'_, D>,
+    owner: Owner,
+    object: ObjectId,
+    range: Range,
+) -> Result<Bytes, PoolError>
+    ensures { kin_of handle.old ≡ 0 → turns_of handle.new
+        ≡ turns_of handle.old ++ turn (view_seen handle.old) (view_seen handle.new) ∷ [] }
 {
     handle.fetch(rt, owner, object, range)
 }

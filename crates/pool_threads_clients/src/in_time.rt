@@ -1,6 +1,6 @@
 //! What callers rest on of calls that wait: none waits for its own owner.
 
-ghost use Rattle.std.specs.Prelude.{ℕ, ◌≡◌, ◌≢◌, ◌⊎◌, ◌++◌, ◌∷◌, [], All, IfErr, IfOk, IsTrue, List, Some, false, length, slice_get, true};
+ghost use Rattle.std.specs.Prelude.{ℕ, ◌≡◌, ◌≢◌, ◌⊎◌, ◌++◌, ◌∷◌, [], All, IfErr, IfOk, IsTrue, List, Some, false, slice_get, true};
 ghost use Rattle.base.specs.declared.error.PoolError.{PoolError};
 ghost use Rattle.base.specs.declared.range.Mode.TheVariants.{Reader, Writer};
 ghost use Rattle.base.specs.history.Plans.{number_range, overlaps};
@@ -78,16 +78,14 @@ fn so_is_an_append_lock<D: SectorDevice, W: Wait>(
     handle.lock_append(rt, Owner(3), ObjectId(5))
 }
 
-// Each turn before the one that locks its range left no writer's lock of its owner that overlaps it. From that one on
-// it has three, or that one alone if the lock is refused.
+// Each turn but the last left no writer's lock of its owner that overlaps the range.
 fn a_fetch_waits_for_other_owners_alone<D: SectorDevice, W: Wait>(
     rt: &W,
     handle: &mut Handle<'_, D>,
     range: Range,
 ) -> Result<Bytes, PoolError>
-    ensures { (had : List (Turn SeenPool)) × (rest : List (Turn SeenPool))
-        × (turns_of handle.new ≡ (turns_of handle.old ++ had) ++ rest)
-        × ((length rest ≡ 1) ⊎ (length rest ≡ 3))
+    ensures { (had : List (Turn SeenPool)) × (last : Turn SeenPool)
+        × (turns_of handle.new ≡ (turns_of handle.old ++ had) ++ last ∷ [])
         × All (λ t. (i : ℕ) (g : Grant)
         → slice_get (viewed_state t.left).shown.locks i ≡ Some g → g.owner ≡ 3
         → overlaps g.range (object_range 5 range.low range.high) ≡ true → g.mode ≡ Reader) had }

@@ -107,6 +107,33 @@ where
     }
 }
 
+fn an_open_pool_may_keep_1_gib<D: SectorDevice>(alloc: Global, device: D) -> Option<Pool<D>>
+where
+    D: Drop,
+    ensures { IfSome result (λ p. (opening_view (shared_of p)).cache_room ≡ 262144) }
+{
+    let limits = Limits {
+        cache_blocks: 262_144,
+        ..LIMITS
+    };
+    match Pool::open(alloc, device, limits, 7) {
+        Ok(pool) => Some(pool),
+        Err(_) => None,
+    }
+}
+
+fn no_pool_opens_with_a_larger_cache<D: SectorDevice>(alloc: Global, device: D)
+where
+    D: Drop,
+{
+    let limits = Limits {
+        cache_blocks: 262_145,
+        ..LIMITS
+    };
+    let opened = Pool::open(alloc, device, limits, 7);
+    prove!(opened.is_err());
+}
+
 fn an_open_pool_lets_256_blocks_stay<D: SectorDevice>(alloc: Global, device: D) -> Option<Pool<D>>
 where
     D: Drop,

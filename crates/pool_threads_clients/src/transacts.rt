@@ -1,17 +1,18 @@
 //! What callers rest on of `transact` and `transact_locked`.
 
-ghost use Rattle.std.specs.Prelude.{ℕ, ◌≡◌, ◌⊎◌, ◌++◌, [], ◌∷◌, All, IfErr, IfOk, IfSome, IsTrue, List, None, Some, slice_get};
+ghost use Rattle.std.specs.Prelude.{ℕ, ◌≡◌, ◌⊎◌, ◌++◌, [], ◌∷◌, All, IfErr, IfOk, IfSome, IsTrue, List, None, Ok, Some, slice_get, true};
 ghost use Rattle.base.specs.declared.names.Group.{Group};
 ghost use Rattle.base.specs.declared.names.LockId.{LockId};
 ghost use Rattle.base.specs.declared.names.TxId.{TxId};
 ghost use Rattle.base.specs.declared.step.Reply.TheVariants as reply;
 ghost use Rattle.base.specs.declared.step.Step.TheVariants as step;
 ghost use Rattle.base.specs.steps.Groups.{Admission};
-ghost use Rattle.base.specs.steps.Shown.{dirty_total};
+ghost use Rattle.base.specs.steps.Shown.{dirty_total, is_durable};
 ghost use Rattle.pool_threads.specs.Answers.{Sees, state_seen};
 ghost use Rattle.pool_threads.specs.Handles.{kin_of, turns_of, view_seen};
-ghost use Rattle.pool_threads.specs.Transacts.{IsTransacted, Locks, Unlocks, plan_of_ops};
+ghost use Rattle.pool_threads.specs.Transacts.{IsTransacted, Locks, TransactsOrLacks, Unlocks, plan_of_ops};
 ghost use Rattle.pool_threads.specs.Views.{IsPoolStep, SeenPool, viewed_state};
+ghost use Rattle.pool_threads.specs.declared.handle.Handle.{Handle};
 ghost use Rattle.transactions.specs.LockRanges.{lock_ranges};
 ghost use Rattle.word_lock.specs.declared.rule.Turn.{Turn};
 ghost use Rattle.word_lock.specs.Turns.{turn};
@@ -180,6 +181,23 @@ fn a_durable_transaction_is_entered_and_durable<D: SectorDevice, W: Wait>(
         (λ before after. IsKnownDurable r.ordinal.0 r.group.0 after) handle.old handle.new) }
 {
     match handle.transact_durably(rt, Owner(3), ops) {
+        Ok(receipt) => Some(receipt),
+        Err(_) => None,
+    }
+}
+
+// So it takes one turn more than the transaction, if that flushes the log and nothing keeps it from being durable then.
+fn a_durable_transaction_has_no_turn_after_a_first_one_that_makes_it_durable<
+    D: SectorDevice,
+    W: Wait,
+>(rt: &W, handle: &mut Handle<'_, D>, owner: Owner, ops: Ops) -> Option<Receipt>
+    ensures { IfSome result (λ r. (done : Handle _ _)
+        × TransactsOrLacks owner ops (Ok r) handle.old done
+        × (took : SeenPool) × (left : SeenPool) × (rest : List (Turn SeenPool))
+        × (turns_of handle.new ≡ (turns_of done ++ turn took left ∷ []) ++ rest)
+        × (is_durable (viewed_state left).shown r.ordinal.0 r.group.0 ≡ true → rest ≡ [])) }
+{
+    match handle.transact_durably(rt, owner, ops) {
         Ok(receipt) => Some(receipt),
         Err(_) => None,
     }

@@ -16,3 +16,5 @@ mod PrintedFindings
 mod PrintedLabels
 mod ReportClients
 mod WrittenLists
+pub mod NamedUndone
+mod AskedUndone

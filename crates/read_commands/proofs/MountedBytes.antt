@@ -5,7 +5,7 @@ use Rattle.std.specs.FinMap as finite
 use Rattle.std.specs.FinMap.{FinMap}
 use Rattle.std.specs.Io.KnownBytes.{Appends}
 use Rattle.std.specs.Ordering.{nat_cmp}
-use Rattle.std.specs.Prelude.{IfErr, IfOk, IsOkAnd, IsSome, option_map}
+use Rattle.std.specs.Prelude.{IfErr, IfOk, IsSome, option_map}
 use Rattle.base.specs.declared.error.PoolError.{PoolError}
 use Rattle.base.specs.declared.error.PoolError.TheVariants.{BadRange, NoObject}
 use Rattle.base.specs.tree.Mount.{MountsTo}
@@ -13,11 +13,9 @@ use Rattle.base.specs.declared.names.ObjectId.{ObjectId}
 use Rattle.base.specs.declared.range.Range.{Range}
 use Rattle.base.specs.history.Contents.{Contents}
 use Rattle.base.proofs.crash.OneMount.{mounts_agree}
-use Rattle.file_devices.specs.declared.held_file.FileRefusal.{FileRefusal}
 use Rattle.mounted.specs.Ranges.{is_readable}
 use Rattle.tree_blocks.specs.Sources.{object_length, range_in}
 use Rattle.read_commands.specs.Reads.{IsAbsentIn, IsMountedRange, WritesMounted}
-use Rattle.read_commands.specs.declared.failure.Failure.{Failure}
 
 -- what is neither outside the limits nor missing is there
 object_there : (readable : Bool) (found : Option (List ℕ)) (read : Result (List ℕ) PoolError) (bytes : List ℕ) → read ≡ Ok bytes → (readable ≡ false → read ≡ Err BadRange)

@@ -1,5 +1,5 @@
 -- A device that was only read refused no write and no flush, and stays where it was opened.
-use Rattle.std.proofs.Common.{◌≡◌, ◌⊎◌, inl, inr, ℕ, List, Result, Ok, IsTrue, refl, subst, sym}
+use Rattle.std.proofs.Common.{◌≡◌, ◌⊎◌, inl, inr, ℕ, Result, Ok, IsTrue, refl, subst, sym}
 use Rattle.std.specs.Prelude.{IfOk}
 use Rattle.base.specs.declared.error.PoolError.{PoolError}
 use Rattle.base.specs.declared.error.PoolError.TheVariants.{Flush, Read, Write}
@@ -7,7 +7,6 @@ use Rattle.base.specs.declared.names.ObjectId.{ObjectId}
 use Rattle.base.specs.declared.range.Range.{Range}
 use Rattle.base.specs.declared.refused.RefusedCalls.{RefusedCalls}
 use Rattle.base.specs.disk.Calls.{with_refusal}
-use Rattle.base.specs.disk.Disk.{bytes_of}
 use Rattle.device_model.specs.declared.device.SectorDevice.{Ghosts}
 use Rattle.file_devices.specs.declared.held_file.FileRefusal.{FileRefusal}
 use Rattle.inspections.specs.Refused.{IsInspectionRefusal}

@@ -1,6 +1,5 @@
 -- What `create`, `show` and `ls` write is of the pool that was made, or of what was found.
-use Rattle.std.proofs.Common.{◌≡◌, ◌++◌, ◌+◌, ◌<◌, ap, append_assoc, drop, get_or, length, map, ℕ, List, [], ◌∷◌, Result, Ok, Err, IsTrue, refl, subst, sym, ◌∙◌}
-use Rattle.std.specs.FinMap as finite
+use Rattle.std.proofs.Common.{◌≡◌, ◌++◌, ◌+◌, ◌<◌, ap, append_assoc, drop, get_or, length, ℕ, List, [], Result, Ok, Err, IsTrue, refl, subst, sym, ◌∙◌}
 use Rattle.std.specs.Fmt.{digits}
 use Rattle.std.specs.Io.KnownBytes.{Appends}
 use Rattle.std.specs.Prelude.{IfOk, Option, Some, codes}

@@ -1,21 +1,20 @@
 -- What reports print of an image, where there were no bytes before: of one object of two bytes, of a pool's name, of its space, and of its labels.
-use Rattle.std.proofs.Common.{◌≡◌, ◌++◌, ap, length, map, ℕ, List, [], ◌∷◌, refl, subst, sym, ◌∙◌}
+use Rattle.std.proofs.Common.{◌≡◌, ◌++◌, ap, length, ℕ, List, [], ◌∷◌, refl, subst, sym, ◌∙◌}
 use Rattle.std.specs.FinMap as finite
 use Rattle.std.specs.Fmt.{decimal, digits}
 use Rattle.std.specs.Io.KnownBytes.{Appends}
-use Rattle.std.specs.List.{flat_map}
 use Rattle.std.specs.Prelude.{Option, Some, codes}
 use Rattle.base.specs.tree.Mount.{MountsTo}
 use Rattle.base.specs.declared.names.ObjectId.{ObjectId}
 use Rattle.base.specs.formats.Geometry.{block_count}
 use Rattle.base.specs.formats.Limits.{one_level_length}
 use Rattle.base.specs.history.Contents.{Contents}
-use Rattle.inspections.specs.declared.inspection.Inspected.{Inspected}
 use Rattle.command_arguments.specs.declared.reports.Scope.{Scope}
 use Rattle.command_arguments.specs.declared.reports.SpaceUnit.TheVariants as unit
 use Rattle.read_commands.specs.Json.{json_listed, json_objects, json_shown}
 use Rattle.read_commands.specs.JsonLabels.{PrintsLabels, json_active, json_config, json_found_label, json_four, json_ring}
-use Rattle.read_commands.specs.ObjectBlocks.{long_line, long_lines}
+use Rattle.read_commands.specs.LabelTexts.{WritesFour, active_text, config_text, found_text, four_texts, ring_text}
+use Rattle.read_commands.specs.ObjectBlocks.{long_lines}
 use Rattle.read_commands.specs.PoolLines.{WritesInspected}
 use Rattle.read_commands.specs.ReadScopes.{WritesObjects}
 use Rattle.read_commands.specs.Space.{amount_text, block_bytes, pool_space_lines, space_lines}
@@ -100,3 +99,15 @@ labels_told before after empty p =
     let rest : List ℕ = codes "," ++ (json_found_label 1 p.first ++ (codes "," ++ (json_found_label 2 p.second
     ++ (codes "," ++ (json_found_label 3 p.third ++ (codes "],\"active\":" ++ (json_active p.active ++ codes "}\n"))))))) in
     (config ++ rest, appended after text (subst (λ (b : Option (List ℕ)). Appends b after text) empty p.writes) ∙ ap Some (zeroth_label config rest))
+
+-- so do their lines
+zeroth_line : (config rest : List ℕ) → (codes "label " ++ (decimal 0 ++ (codes " config " ++ config))) ++ rest ≡ codes "label 0 config " ++ (config ++ rest)
+unfolding digits
+zeroth_line config rest = refl
+
+pub lines_told : (before after : Option (List ℕ)) → before ≡ Some [] → WritesFour before after → (rest : List ℕ) × (after ≡ Some (codes "label 0 config " ++ rest))
+lines_told before after empty p =
+    let text : List ℕ = four_texts p.zeroth p.first p.second p.third p.active in
+    let config : List ℕ = config_text p.zeroth.config ++ (codes "\nlabel " ++ (decimal 0 ++ (codes " uberblocks " ++ (ring_text p.zeroth.count p.zeroth.highest ++ codes "\n")))) in
+    let rest : List ℕ = found_text 1 p.first ++ (found_text 2 p.second ++ (found_text 3 p.third ++ (codes "active " ++ (active_text p.active ++ codes "\n")))) in
+    (config ++ rest, appended after text (subst (λ (b : Option (List ℕ)). Appends b after text) empty p.writes) ∙ ap Some (zeroth_line config rest))

@@ -1,5 +1,5 @@
 -- What a command that reads by a scope may rest on, and what it writes.
-use Rattle.std.proofs.Common.{◌≡◌, ap, length, map, ℕ, List, [], ◌∷◌, Option, Result, Ok, Err, Some, IsTrue, refl, subst, ◌∙◌}
+use Rattle.std.proofs.Common.{◌≡◌, ap, length, map, ℕ, List, [], ◌∷◌, Option, Result, Ok, Err, IsTrue, ◌∙◌}
 use Rattle.std.specs.FinMap as finite
 use Rattle.std.specs.Io.KnownBytes.{Appends}
 use Rattle.std.specs.Prelude.{IfOk, IsOkAnd}
@@ -8,7 +8,7 @@ use Rattle.base.specs.declared.names.ObjectId.{ObjectId}
 use Rattle.base.specs.declared.range.Range.{Range}
 use Rattle.base.specs.disk.Disk.{bytes_of}
 use Rattle.base.specs.history.Contents.{Contents}
-use Rattle.base.specs.tree.Mount.{IsMounted, Mount, MountsTo}
+use Rattle.base.specs.tree.Mount.{MountsTo}
 use Rattle.base.proofs.crash.OneMount.{mounts_agree}
 use Rattle.command_arguments.specs.declared.reports.Scope.{Scope}
 use Rattle.command_arguments.specs.declared.reports.Scope.TheVariants.{Path, Whole}

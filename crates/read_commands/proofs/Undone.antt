@@ -1,25 +1,30 @@
 -- Why a command that only reads was not done, and what its status then says of the device.
-use Rattle.std.proofs.Common.{◌≡◌, ◌≢◌, ◌⊎◌, inl, inr, ℕ, List, Result, Ok, Err, Some, IsTrue, ap, refl, subst, sym, ◌∙◌}
+use Rattle.std.proofs.Common.{◌≡◌, ◌≢◌, ◌⊎◌, arith, inl, inr, ℕ, List, Result, Ok, Err, Some, IsTrue, ap, refl, subst, sym, ◌∙◌}
 use Rattle.std.specs.Prelude.{IfErr, IfOk, IsOk, None}
-use Rattle.std.proofs.lemmas.Result.{IfErr-weaker, IfOk-weaker}
+use Rattle.std.proofs.lemmas.Result.{IfOk-weaker}
 use Rattle.std.specs.FinMap as finite
 use Rattle.base.specs.declared.error.PoolError.{PoolError}
 use Rattle.base.specs.declared.error.PoolError.TheVariants.{BadGeometry, NoMemory, Read}
+use Rattle.base.specs.declared.names.ObjectId.{ObjectId}
 use Rattle.base.specs.declared.range.Range.{Range}
 use Rattle.base.specs.disk.Disk.{bytes_of}
 use Rattle.base.specs.formats.Geometry.{IsGeometry}
 use Rattle.base.specs.history.Contents.{Contents}
 use Rattle.base.specs.tree.Mount.{MountsTo}
 use Rattle.command_arguments.specs.declared.reports.Scope.{Scope}
+use Rattle.command_arguments.specs.declared.reports.Scope.TheVariants.{Path}
 use Rattle.device_model.specs.declared.device.SectorDevice.{Ghosts}
 use Rattle.file_devices.specs.declared.held_file.FileRefusal.{FileRefusal}
 use Rattle.inspections.specs.Inspections.{IsInspectionOf}
 use Rattle.inspections.specs.declared.inspection.Inspected.{Inspected}
+use Rattle.object_views.specs.Listings.{IsListingOf}
+use Rattle.object_views.specs.declared.listing.ListedPool.{ListedPool}
 use Rattle.read_commands.specs.Checks.{IsCheckRefusal, MountsWhole}
 use Rattle.read_commands.specs.Failures.{IsFailureFor, failure_status, refusal_of}
+use Rattle.read_commands.specs.ReadScopes.{AreCheckedObjects, AreMountedObjects}
 use Rattle.read_commands.specs.Reads.{IsMountedRange}
 use Rattle.read_commands.specs.Scopes.{IsAssured}
-use Rattle.read_commands.specs.Undone.{EndsUndone, GetsUndone, HasRange, HasWholePool, IsCheckRefused, IsGetRefused, IsLookFailure}
+use Rattle.read_commands.specs.Undone.{EndsUndone, GetsUndone, HasListing, HasObjects, HasRange, HasWholePool, IsCheckRefused, IsGetRefused, IsLookFailure}
 use Rattle.read_commands.specs.declared.failure.Failure.{Failure}
 use Rattle.read_commands.specs.declared.failure.Failure.TheVariants.{OutOfRange, Refused, RefusedCall, Unusable, Unwritten}
 use Rattle.read_commands.proofs.MountedBytes.{never_absent}
@@ -43,12 +48,17 @@ module _ {Dev : Type 0} (R : Dev → Dev → PoolError → Type 0) where
   look_refused opened old new e why is refused failure = subst (λ (o : Result Dev FileRefusal). IsLookFailure R o (Ok new) why) (sym is) (e, refused, failure)
 
   -- a command has status 1 if it can have no other: it is not done, and this is not so of its device
+  pub refused_by : (F : Dev → Type 0) (old : Dev) (after : Result Dev FileRefusal) (status : ℕ) → (F old → ⊥) → EndsUndone R F (Ok old) after status → status ≡ 1
+  refused_by F old after status not (inl (why, look, is)) = is ∙ look_status old after why look
+  refused_by F old after status not (inr (three, there)) = absurd (not there)
+
   pub refused_if_not : (F : Dev → Type 0) (old : Dev) (after : Result Dev FileRefusal) (status : ℕ) → (status ≢ 0 → EndsUndone R F (Ok old) after status) → status ≢ 0 → (F old → ⊥) → status ≡ 1
-  refused_if_not F old after status undone some not = by (undone some)
-    where
-      by : EndsUndone R F (Ok old) after status → status ≡ 1
-      by (inl (why, look, is)) = is ∙ look_status old after why look
-      by (inr (three, there)) = absurd (not there)
+  refused_if_not F old after status undone some not = refused_by F old after status not (undone some)
+
+  -- and with status 3 of what was opened only its output was not written
+  pub there_if_unwritten : (F : Dev → Type 0) (old : Dev) (after : Result Dev FileRefusal) (status : ℕ) → status ≡ 3 → EndsUndone R F (Ok old) after status → F old
+  there_if_unwritten F old after status three (inl (why, look, is)) = absurd (let one : status ≡ 1 = is ∙ look_status old after why look in omega (arith, three, one))
+  there_if_unwritten F old after status three (inr (same, there)) = there
 
 -- what an inspection finds is mounted
 pub whole_of : (image : List ℕ) (i : Inspected) → IsInspectionOf image i → MountsWhole image
@@ -59,7 +69,21 @@ module _ {Dev : Type 0} (D : Ghosts Dev) (opened : Result Dev FileRefusal) where
   pub whole_found : (i : Inspected) → IfOk opened (λ device. IsTrue D.keeps_model → IsInspectionOf (bytes_of (D.disk device).now) i) → IfOk opened (HasWholePool D)
   whole_found i found = IfOk-weaker opened _ _ (λ device mounted keeps. whole_of _ i (mounted keeps)) found
 
+  -- and so are a listing, and the objects
+  pub listing_found : (l : ListedPool) → IfOk opened (λ device. IsTrue D.keeps_model → IsListingOf (bytes_of (D.disk device).now) l) → IfOk opened (HasListing D)
+  listing_found l found = IfOk-weaker opened _ _ (λ device listed keeps. (l, listed keeps)) found
+
   module _ (scope : Scope) where
+    pub objects_found : (objects : List (ObjectId × ℕ))
+        → IfOk opened (λ device. IsAssured scope (IsTrue D.keeps_model) (bytes_of (D.disk device).now) → AreMountedObjects (bytes_of (D.disk device).now) objects)
+        → IfOk opened (λ device. scope ≡ Path → IsTrue D.keeps_model → AreCheckedObjects (bytes_of (D.disk device).now) objects) → IfOk opened (HasObjects D scope)
+    objects_found objects = by opened
+      where
+        by : (o : Result Dev FileRefusal) → IfOk o (λ device. IsAssured scope (IsTrue D.keeps_model) (bytes_of (D.disk device).now) → AreMountedObjects (bytes_of (D.disk device).now) objects)
+            → IfOk o (λ device. scope ≡ Path → IsTrue D.keeps_model → AreCheckedObjects (bytes_of (D.disk device).now) objects) → IfOk o (HasObjects D scope)
+        by (Ok device) mounted checked = (objects, mounted, checked)
+        by (Err cause) mounted checked = tt
+
     range_found : (object : ℕ) (range : Range) (read : Result (List ℕ) Failure) (bytes : List ℕ) → read ≡ Ok bytes
         → IfOk opened (λ device. IsAssured scope (IsTrue D.keeps_model) (bytes_of (D.disk device).now) → IfOk read (IsMountedRange (bytes_of (D.disk device).now) object range))
         → IfOk opened (HasRange D scope object range)

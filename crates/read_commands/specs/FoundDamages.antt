@@ -63,6 +63,10 @@ pub record WritesFinding (keeps : Type 0) (image : List ℕ) (f : Finding) (old 
   pub found : keeps → IsFoundIn image f
   pub writes : Appends old new (finding_line f)
 
+-- so a check wrote it that has this status
+abbrev pub WritesOne : ℕ → Type 0 → List ℕ → Option (List ℕ) → Option (List ℕ) → Type 0
+WritesOne status keeps image old new = (found : Finding) × (finding_status found ≡ status) × WritesFinding keeps image found old new
+
 -- the lines of findings, and then those of labels
 abbrev pub found_lines : List Finding → List LabelState → List ℕ
 found_lines list states = finding_lines list ++ label_lines states
@@ -74,3 +78,7 @@ pub record WritesFindings (keeps : Type 0) (image : List ℕ) (list : List Findi
   pub states : List LabelState
   pub labels : keeps → AreLabelStates image states
   pub writes : Appends old new (found_lines list states)
+
+-- so a check of all wrote them that has this status
+abbrev pub WritesAll : ℕ → Type 0 → List ℕ → Option (List ℕ) → Option (List ℕ) → Type 0
+WritesAll status keeps image old new = (list : List Finding) × (all_status list ≡ status) × WritesFindings keeps image list old new

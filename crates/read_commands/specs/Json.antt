@@ -1,12 +1,12 @@
 -- What `show`, `ls` and `check` print as JSON.
-use Rattle.std.specs.Prelude.{ℕ, ◌++◌, if◌then◌else◌, Bool, true, false, codes, List, [], ◌∷◌, Option}
+use Rattle.std.specs.Prelude.{ℕ, ◌≡◌, ◌++◌, if◌then◌else◌, Bool, true, false, codes, List, [], ◌∷◌, Option}
 use Rattle.std.specs.Fmt.{decimal}
 use Rattle.std.specs.Io.KnownBytes.{Appends}
 use Rattle.std.specs.List.{flat_map}
 use Rattle.base.specs.declared.names.ObjectId.{ObjectId}
 use Rattle.inspections.specs.declared.inspection.Inspected.{Inspected}
-use Rattle.read_commands.specs.Checks.{IsFoundIn}
-use Rattle.read_commands.specs.FoundDamages.{AreFoundIn}
+use Rattle.read_commands.specs.Checks.{IsFoundIn, finding_status}
+use Rattle.read_commands.specs.FoundDamages.{AreFoundIn, all_status}
 use Rattle.read_commands.specs.FoundLabels.{AreLabelStates, is_whole, some_whole}
 use Rattle.read_commands.specs.declared.checks.Finding.{Finding}
 use Rattle.read_commands.specs.declared.checks.Finding.TheVariants.{Clean, Damaged, NoPool}
@@ -117,3 +117,10 @@ pub record PrintsFindings (keeps : Type 0) (image : List ℕ) (list : List Findi
   pub states : List LabelState
   pub labels : keeps → AreLabelStates image states
   pub writes : Appends old new (json_found list states)
+
+-- so a check printed what it found that has this status, and a check of all
+abbrev pub PrintsOne : ℕ → Type 0 → List ℕ → Option (List ℕ) → Option (List ℕ) → Type 0
+PrintsOne status keeps image old new = (found : Finding) × (finding_status found ≡ status) × PrintsFinding keeps image found old new
+
+abbrev pub PrintsAll : ℕ → Type 0 → List ℕ → Option (List ℕ) → Option (List ℕ) → Type 0
+PrintsAll status keeps image old new = (list : List Finding) × (all_status list ≡ status) × PrintsFindings keeps image list old new

@@ -4,8 +4,9 @@ use Rattle.std.specs.Fmt.{decimal}
 use Rattle.std.specs.Io.KnownBytes.{Appends}
 use Rattle.read_commands.specs.declared.label_lines.ConfigFound.{ConfigFound}
 use Rattle.read_commands.specs.declared.label_lines.ConfigFound.TheVariants as found
-use Rattle.read_commands.specs.declared.json_labels.Active.{Active}
-use Rattle.read_commands.specs.declared.json_labels.Active.TheVariants as uberblock
+use Rattle.read_commands.specs.declared.label_texts.Active.{Active}
+use Rattle.read_commands.specs.declared.label_texts.Active.TheVariants as uberblock
+use Rattle.read_commands.specs.LabelTexts.{LabelFound}
 
 -- a config, or why there is none; the guid is a text, since it may pass 2^53
 abbrev pub json_config : ConfigFound → List ℕ
@@ -32,12 +33,7 @@ json_active uberblock.Missing = codes "null"
 json_active (uberblock.Unplaced group) = codes "{\"group\":" ++ (decimal group.0 ++ codes "}")
 json_active (uberblock.Found group label) = codes "{\"group\":" ++ (decimal group.0 ++ (codes ",\"label\":" ++ (decimal label ++ codes "}")))
 
--- what was found of a label besides its number
-pub record LabelFound : Type 0 where
-  pub config : ConfigFound
-  pub count : ℕ
-  pub highest : ℕ
-
+-- what was found of a label, with its number
 abbrev pub json_found_label : ℕ → LabelFound → List ℕ
 json_found_label number l = json_label number l.config l.count l.highest
 

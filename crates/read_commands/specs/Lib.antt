@@ -15,7 +15,11 @@ pub mod NameFailures
 pub mod NamedLines
 pub mod NamedObjects
 pub mod NamedTables
+pub mod NamedUndone
 pub mod Json
 pub mod JsonLabels
+pub mod LabelTexts
 pub mod ObjectBlocks
 pub mod Space
+pub mod Written
+pub mod AskedUndone

@@ -13,6 +13,10 @@ use Rattle.read_commands.specs.Scopes.{IsAssured}
 use Rattle.read_commands.specs.NamedTables.{IsTableChecked}
 use Rattle.tree_blocks.specs.Sources.{object_bytes}
 
+-- no object has this name in a table
+abbrev pub IsUnknown : List ℕ → List ℕ → Type 0
+IsUnknown table name = (n : ℕ) → IsNamed table n name → ⊥
+
 -- object 0 of the contents is a table of names, in which this object has this name
 abbrev pub HasName : Contents → List ℕ → ℕ → Type 0
 HasName contents name n = IsNameTable (object_bytes contents.objects 0) × IsNamed (object_bytes contents.objects 0) n name

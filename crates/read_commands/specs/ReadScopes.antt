@@ -22,7 +22,8 @@ pub record WritesRange (scope : Scope) (keeps : Type 0) (image : List ℕ) (obje
   pub checked : scope ≡ Path → keeps → IsCheckedRange image object range bytes
   pub writes : Appends old new bytes
 
--- these are all objects of what the image mounts, with their lengths
+-- these are all objects of what the image mounts, with their lengths; an image mounts one contents (`mounts_agree` of
+-- `base`), so they are those that an import of it has
 abbrev pub AreMountedObjects : List ℕ → List (ObjectId × ℕ) → Type 0
 AreMountedObjects image objects = (contents : Contents) × MountsTo image contents × (objects ≡ listed contents.objects)
 

@@ -1,16 +1,15 @@
 //! The command `check` with `--all`: it goes on after a damage, and writes a line for each. Then it writes a line for
 //! each label that has no valid config, if another one has. It only reads.
 
-ghost use Rattle.std.specs.Prelude.{◌≡◌, ◌≢◌, ◌≤◌, ◌⊎◌, Err, IfErr, IfOk, IsErr, IsTrue, List, OnOk, map};
+ghost use Rattle.std.specs.Prelude.{◌≡◌, ◌≢◌, ◌≤◌, ◌⊎◌, Err, IfErr, IfOk, IsErr, IsTrue, OnOk, map};
 ghost use Rattle.std.specs.Io.KnownBytes.{Appends};
 ghost use Rattle.base.specs.disk.Disk.{bytes_of};
 ghost use Rattle.base.specs.formats.Geometry.{IsGeometry};
 ghost use Rattle.device_model.specs.Reading.{OnlyReads};
-ghost use Rattle.read_commands.specs.FoundDamages.{AreFoundIn, ListsFindings, WritesFindings, all_status, damage_finding, finding_lines, found_lines};
+ghost use Rattle.read_commands.specs.FoundDamages.{AreFoundIn, ListsFindings, WritesAll, all_status, damage_finding, finding_lines, found_lines};
 ghost use Rattle.read_commands.specs.FoundLabels.{AreLabelStates};
 ghost use Rattle.read_commands.specs.Checks.{IsCheckRefusal, StaysOpened};
-ghost use Rattle.read_commands.specs.Undone.{IsCheckRefused, IsLookFailure};
-ghost use Rattle.read_commands.specs.declared.checks.Finding.{Finding as ShownFinding};
+ghost use Rattle.read_commands.specs.Undone.{ChecksUndone, IsCheckRefused, IsLookFailure};
 
 use crate::checks::Finding;
 use crate::failure::{Failure, NotesRefusals, report_failure};
@@ -96,13 +95,14 @@ pub fn run_check_all<D: SectorDevice + NotesRefusals, W: Write, E: Write>(
     ensures only_read { StaysOpened D.SectorDevice opened.old opened.new }
     ensures unusable { IsErr opened.old → result ≡ 3 }
     ensures size { IfOk opened.old (λ device. (IsGeometry (D.size device) → ⊥) → result ≡ 1) }
-    ensures clean { result ≡ 0 → IfOk opened.old (λ device. (list : List ShownFinding)
-        × (all_status list ≡ 0) × WritesFindings (IsTrue D.keeps_model)
-        (bytes_of (D.disk device).now) list (W.contents out.old) (W.contents out.new)) }
+    ensures clean { result ≡ 0 → IfOk opened.old (λ device. WritesAll 0 (IsTrue D.keeps_model)
+        (bytes_of (D.disk device).now) (W.contents out.old) (W.contents out.new)) }
     ensures damaged { result ≡ 1 → IfOk opened.old (λ device.
-        (W.contents out.new ≡ W.contents out.old) ⊎ ((list : List ShownFinding)
-        × (all_status list ≡ 1) × WritesFindings (IsTrue D.keeps_model)
-        (bytes_of (D.disk device).now) list (W.contents out.old) (W.contents out.new))) }
+        (W.contents out.new ≡ W.contents out.old) ⊎ WritesAll 1 (IsTrue D.keeps_model)
+        (bytes_of (D.disk device).now) (W.contents out.old) (W.contents out.new)) }
+    ensures undone { result ≢ 0 → ChecksUndone D.SectorDevice opened.old opened.new result
+        ⊎ IfOk opened.old (λ device. WritesAll result (IsTrue D.keeps_model)
+        (bytes_of (D.disk device).now) (W.contents out.old) (W.contents out.new)) }
     ensures range { result ≤ 3 }
     ensures no_usage { result ≢ 2 }
 {
@@ -146,6 +146,7 @@ pub fn find_opened<D: SectorDevice + NotesRefusals>(
     ensures unusable { IfErr opened.old (λ cause. result ≡ Err (Failure.Unusable cause)) }
     ensures size { IfOk opened.old (λ device. (IsGeometry (D.size device) → ⊥)
         → result ≡ Err (Failure.Refused PoolError.BadGeometry)) }
+    ensures sized { OnOk result (IfOk opened.old (λ device. IsGeometry (D.size device))) }
     ensures found { IfOk opened.old (λ device. IsTrue D.keeps_model
         → IfOk result (λ f. AreFoundIn (bytes_of (D.disk device).now) f.findings.items)) }
     ensures labels { IfOk opened.old (λ device. IsTrue D.keeps_model

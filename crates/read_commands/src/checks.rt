@@ -5,9 +5,8 @@ ghost use Rattle.base.specs.disk.Disk.{bytes_of};
 ghost use Rattle.base.specs.formats.Geometry.{IsGeometry};
 ghost use Rattle.device_model.specs.Reading.{OnlyReads};
 ghost use Rattle.read_commands.specs.Checks.{IsCheckRefusal, IsFoundIn, StaysOpened, finding_status, found_of};
-ghost use Rattle.read_commands.specs.FoundDamages.{WritesFinding};
-ghost use Rattle.read_commands.specs.Undone.{IsCheckRefused, IsLookFailure};
-ghost use Rattle.read_commands.specs.declared.checks.Finding.{Finding as ShownFinding};
+ghost use Rattle.read_commands.specs.FoundDamages.{WritesOne};
+ghost use Rattle.read_commands.specs.Undone.{ChecksUndone, IsCheckRefused, IsLookFailure};
 
 use crate::failure::{Failure, NotesRefusals, report_failure};
 use base::{Group, PoolError};
@@ -118,13 +117,14 @@ pub fn run_check<D: SectorDevice + NotesRefusals, W: Write, E: Write>(
     ensures only_read { StaysOpened D.SectorDevice opened.old opened.new }
     ensures unusable { IsErr opened.old → result ≡ 3 }
     ensures size { IfOk opened.old (λ device. (IsGeometry (D.size device) → ⊥) → result ≡ 1) }
-    ensures clean { result ≡ 0 → IfOk opened.old (λ device. (found : ShownFinding)
-        × (finding_status found ≡ 0) × WritesFinding (IsTrue D.keeps_model)
-        (bytes_of (D.disk device).now) found (W.contents out.old) (W.contents out.new)) }
+    ensures clean { result ≡ 0 → IfOk opened.old (λ device. WritesOne 0 (IsTrue D.keeps_model)
+        (bytes_of (D.disk device).now) (W.contents out.old) (W.contents out.new)) }
     ensures damaged { result ≡ 1 → IfOk opened.old (λ device.
-        (W.contents out.new ≡ W.contents out.old) ⊎ ((found : ShownFinding)
-        × (finding_status found ≡ 1) × WritesFinding (IsTrue D.keeps_model)
-        (bytes_of (D.disk device).now) found (W.contents out.old) (W.contents out.new))) }
+        (W.contents out.new ≡ W.contents out.old) ⊎ WritesOne 1 (IsTrue D.keeps_model)
+        (bytes_of (D.disk device).now) (W.contents out.old) (W.contents out.new)) }
+    ensures undone { result ≢ 0 → ChecksUndone D.SectorDevice opened.old opened.new result
+        ⊎ IfOk opened.old (λ device. WritesOne result (IsTrue D.keeps_model)
+        (bytes_of (D.disk device).now) (W.contents out.old) (W.contents out.new)) }
     ensures range { result ≤ 3 }
     ensures no_usage { result ≢ 2 }
 {
@@ -150,6 +150,7 @@ pub fn check_opened<D: SectorDevice + NotesRefusals>(
     ensures unusable { IfErr opened.old (λ cause. result ≡ Err (Failure.Unusable cause)) }
     ensures size { IfOk opened.old (λ device. (IsGeometry (D.size device) → ⊥)
         → result ≡ Err (Failure.Refused PoolError.BadGeometry)) }
+    ensures sized { OnOk result (IfOk opened.old (λ device. IsGeometry (D.size device))) }
     ensures found { IfOk opened.old (λ device. IsTrue D.keeps_model
         → IfOk result (IsFoundIn (bytes_of (D.disk device).now))) }
     ensures failed { IfErr result

@@ -7,6 +7,7 @@ mod objects;
 mod progress;
 mod report_checks;
 mod reports;
+mod undone;
 
 ghost use Rattle.std.specs.Prelude.{◌≡◌, ◌≢◌, ◌⊎◌, ◌++◌, ℕ, List, [], IfErr, IfOk, IsOk, IsTrue, Some, codes};
 ghost use Rattle.base.specs.tree.Mount.{IsMounted, IsTreeDamaged, Mount, MountsTo};

@@ -1,6 +1,11 @@
 //! Whichever command was asked for that only reads the pool's file.
 
-ghost use Rattle.std.specs.Prelude.{◌≡◌, ◌≢◌, ◌≤◌, IsErr};
+ghost use Rattle.std.specs.Prelude.{◌≡◌, ◌≢◌, ◌≤◌, IfOk, IsErr, IsTrue};
+ghost use Rattle.base.specs.disk.Disk.{bytes_of};
+ghost use Rattle.read_commands.specs.PoolLines.{WritesInspected};
+ghost use Rattle.read_commands.specs.AskedUndone.{AskedUndone};
+ghost use Rattle.read_commands.specs.Space.{pool_space_lines};
+ghost use Rattle.read_commands.specs.Written.{WritesAsked, WritesChecked, WritesLabels, WritesList, WritesShown};
 
 use crate::check_all::run_check_all;
 use crate::checks::run_check;
@@ -81,6 +86,11 @@ pub fn run_opened<D: SectorDevice + NotesRefusals + Drop, W: Write, E: Write>(
     errors: &mut E,
 ) -> u8
     ensures unusable { IsErr opened → result ≡ 3 }
+    ensures written { result ≡ 0 → IfOk opened (λ device. WritesAsked command.entry
+        (IsTrue D.keeps_model) (bytes_of (D.disk device).now)
+        (W.contents out.old) (W.contents out.new)) }
+    ensures undone { result ≢ 0 → AskedUndone D.SectorDevice command.entry opened result
+        (W.contents out.old) (W.contents out.new) }
     ensures range { result ≤ 3 }
     ensures no_usage { result ≢ 2 }
 {
@@ -115,6 +125,11 @@ fn show<D: SectorDevice + NotesRefusals + Drop, W: Write, E: Write>(
     errors: &mut E,
 ) -> u8
     ensures unusable { IsErr opened → result ≡ 3 }
+    ensures shown { result ≡ 0 → IfOk opened (λ device. WritesShown arguments.entry.form
+        (IsTrue D.keeps_model) (bytes_of (D.disk device).now)
+        (W.contents out.old) (W.contents out.new)) }
+    ensures undone { result ≢ 0 → AskedUndone D.SectorDevice (ReadCommand.Show arguments.entry)
+        opened result (W.contents out.old) (W.contents out.new) }
     ensures range { result ≤ 3 }
     ensures no_usage { result ≢ 2 }
 {
@@ -137,6 +152,11 @@ fn check<D: SectorDevice + NotesRefusals + Drop, W: Write, E: Write>(
     errors: &mut E,
 ) -> u8
     ensures unusable { IsErr opened → result ≡ 3 }
+    ensures clean { result ≡ 0 → IfOk opened (λ device. WritesChecked arguments.entry.all
+        arguments.entry.form 0 (IsTrue D.keeps_model) (bytes_of (D.disk device).now)
+        (W.contents out.old) (W.contents out.new)) }
+    ensures undone { result ≢ 0 → AskedUndone D.SectorDevice (ReadCommand.Check arguments.entry)
+        opened result (W.contents out.old) (W.contents out.new) }
     ensures range { result ≤ 3 }
     ensures no_usage { result ≢ 2 }
 {
@@ -166,6 +186,11 @@ fn list<D: SectorDevice + NotesRefusals + Drop, W: Write, E: Write>(
     errors: &mut E,
 ) -> u8
     ensures unusable { IsErr opened → result ≡ 3 }
+    ensures listed { result ≡ 0 → IfOk opened (λ device. WritesList arguments.entry.form
+        arguments.entry.scope (IsTrue D.keeps_model) (bytes_of (D.disk device).now)
+        (W.contents out.old) (W.contents out.new)) }
+    ensures undone { result ≢ 0 → AskedUndone D.SectorDevice (ReadCommand.List arguments.entry)
+        opened result (W.contents out.old) (W.contents out.new) }
     ensures range { result ≤ 3 }
     ensures no_usage { result ≢ 2 }
 {
@@ -191,6 +216,11 @@ fn measure<D: SectorDevice + NotesRefusals + Drop, W: Write, E: Write>(
     errors: &mut E,
 ) -> u8
     ensures unusable { IsErr opened → result ≡ 3 }
+    ensures measured { result ≡ 0 → IfOk opened (λ device. WritesInspected
+        (IsTrue D.keeps_model) (bytes_of (D.disk device).now)
+        (pool_space_lines arguments.entry.unit) (W.contents out.old) (W.contents out.new)) }
+    ensures undone { result ≢ 0 → AskedUndone D.SectorDevice (ReadCommand.Space arguments.entry)
+        opened result (W.contents out.old) (W.contents out.new) }
     ensures range { result ≤ 3 }
     ensures no_usage { result ≢ 2 }
 {
@@ -208,6 +238,10 @@ fn show_labels<D: SectorDevice + NotesRefusals + Drop, W: Write, E: Write>(
     errors: &mut E,
 ) -> u8
     ensures unusable { IsErr opened → result ≡ 3 }
+    ensures printed { result ≡ 0
+        → WritesLabels arguments.entry.form (W.contents out.old) (W.contents out.new) }
+    ensures undone { result ≢ 0 → AskedUndone D.SectorDevice (ReadCommand.Labels arguments.entry)
+        opened result (W.contents out.old) (W.contents out.new) }
     ensures range { result ≤ 3 }
     ensures no_usage { result ≢ 2 }
 {

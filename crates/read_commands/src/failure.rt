@@ -60,6 +60,8 @@ impl NotesRefusals for MemDevice {
 }
 
 impl Failure {
+    ghost use Rattle.std.specs.Prelude.{IfSome, None};
+    ghost use Rattle.base.specs.declared.error.PoolError.TheVariants.{BadRange};
     ghost use Rattle.read_commands.specs.declared.failure.Failure.TheVariants as failure;
 
     /// The failure of a command whose pool refused it, with the call that the device refused, if it was for that.
@@ -82,6 +84,9 @@ impl Failure {
         ensures status { failure_status result ≡ failure_status self }
         ensures cause { (e : declared_error.PoolError) → IsFailureFor e self
             → IsFailureFor e result }
+        ensures named { self ≡ failure.Refused BadRange → IfSome number
+            (λ given. result ≡ failure.OutOfRange given) }
+        ensures unnamed { number ≡ None → result ≡ self }
     {
         match (self, number) {
             (Failure::Refused(PoolError::BadRange), Some(number)) => Failure::OutOfRange(number),

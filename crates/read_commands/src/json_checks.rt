@@ -3,13 +3,12 @@
 
 ghost use Rattle.std.specs.Io.KnownBytes.{Appends};
 ghost use Rattle.std.specs.List.{flat_map};
-ghost use Rattle.std.specs.Prelude.{◌≡◌, ◌≢◌, ◌≤◌, ◌⊎◌, IfOk, IsErr, IsTrue, List, OnOk, true};
+ghost use Rattle.std.specs.Prelude.{◌≡◌, ◌≢◌, ◌≤◌, ◌⊎◌, IfOk, IsErr, IsTrue, OnOk, true};
 ghost use Rattle.base.specs.disk.Disk.{bytes_of};
 ghost use Rattle.base.specs.formats.Geometry.{IsGeometry};
-ghost use Rattle.read_commands.specs.Checks.{StaysOpened, finding_status};
-ghost use Rattle.read_commands.specs.FoundDamages.{all_status};
-ghost use Rattle.read_commands.specs.declared.checks.Finding.{Finding as ShownFinding};
-ghost use Rattle.read_commands.specs.Json.{PrintsFinding, PrintsFindings, json_damages, json_findings, json_comma, json_found, json_labels, json_lost, json_more, json_reasons, json_state};
+ghost use Rattle.read_commands.specs.Checks.{StaysOpened};
+ghost use Rattle.read_commands.specs.Undone.{ChecksUndone};
+ghost use Rattle.read_commands.specs.Json.{PrintsAll, PrintsOne, json_damages, json_findings, json_comma, json_found, json_labels, json_lost, json_more, json_reasons, json_state};
 
 use crate::check_all::{Found, find_opened};
 use crate::checks::{Finding, check_opened};
@@ -37,13 +36,14 @@ pub fn run_json_check<D: SectorDevice + NotesRefusals, W: Write, E: Write>(
     ensures only_read { StaysOpened D.SectorDevice opened.old opened.new }
     ensures unusable { IsErr opened.old → result ≡ 3 }
     ensures size { IfOk opened.old (λ device. (IsGeometry (D.size device) → ⊥) → result ≡ 1) }
-    ensures clean { result ≡ 0 → IfOk opened.old (λ device. (found : ShownFinding)
-        × (finding_status found ≡ 0) × PrintsFinding (IsTrue D.keeps_model)
-        (bytes_of (D.disk device).now) found (W.contents out.old) (W.contents out.new)) }
+    ensures clean { result ≡ 0 → IfOk opened.old (λ device. PrintsOne 0 (IsTrue D.keeps_model)
+        (bytes_of (D.disk device).now) (W.contents out.old) (W.contents out.new)) }
     ensures damaged { result ≡ 1 → IfOk opened.old (λ device.
-        (W.contents out.new ≡ W.contents out.old) ⊎ ((found : ShownFinding)
-        × (finding_status found ≡ 1) × PrintsFinding (IsTrue D.keeps_model)
-        (bytes_of (D.disk device).now) found (W.contents out.old) (W.contents out.new))) }
+        (W.contents out.new ≡ W.contents out.old) ⊎ PrintsOne 1 (IsTrue D.keeps_model)
+        (bytes_of (D.disk device).now) (W.contents out.old) (W.contents out.new)) }
+    ensures undone { result ≢ 0 → ChecksUndone D.SectorDevice opened.old opened.new result
+        ⊎ IfOk opened.old (λ device. PrintsOne result (IsTrue D.keeps_model)
+        (bytes_of (D.disk device).now) (W.contents out.old) (W.contents out.new)) }
     ensures range { result ≤ 3 }
     ensures no_usage { result ≢ 2 }
 {
@@ -72,13 +72,14 @@ pub fn run_json_check_all<D: SectorDevice + NotesRefusals, W: Write, E: Write>(
     ensures only_read { StaysOpened D.SectorDevice opened.old opened.new }
     ensures unusable { IsErr opened.old → result ≡ 3 }
     ensures size { IfOk opened.old (λ device. (IsGeometry (D.size device) → ⊥) → result ≡ 1) }
-    ensures clean { result ≡ 0 → IfOk opened.old (λ device. (list : List ShownFinding)
-        × (all_status list ≡ 0) × PrintsFindings (IsTrue D.keeps_model)
-        (bytes_of (D.disk device).now) list (W.contents out.old) (W.contents out.new)) }
+    ensures clean { result ≡ 0 → IfOk opened.old (λ device. PrintsAll 0 (IsTrue D.keeps_model)
+        (bytes_of (D.disk device).now) (W.contents out.old) (W.contents out.new)) }
     ensures damaged { result ≡ 1 → IfOk opened.old (λ device.
-        (W.contents out.new ≡ W.contents out.old) ⊎ ((list : List ShownFinding)
-        × (all_status list ≡ 1) × PrintsFindings (IsTrue D.keeps_model)
-        (bytes_of (D.disk device).now) list (W.contents out.old) (W.contents out.new))) }
+        (W.contents out.new ≡ W.contents out.old) ⊎ PrintsAll 1 (IsTrue D.keeps_model)
+        (bytes_of (D.disk device).now) (W.contents out.old) (W.contents out.new)) }
+    ensures undone { result ≢ 0 → ChecksUndone D.SectorDevice opened.old opened.new result
+        ⊎ IfOk opened.old (λ device. PrintsAll result (IsTrue D.keeps_model)
+        (bytes_of (D.disk device).now) (W.contents out.old) (W.contents out.new)) }
     ensures range { result ≤ 3 }
     ensures no_usage { result ≢ 2 }
 {

@@ -1,14 +1,15 @@
 //! The command `labels` with `--json`: one object of JSON in one line, with the keys of `docs/COMMANDS.md`. It only
 //! reads.
 
-ghost use Rattle.std.specs.Prelude.{◌≡◌, ◌≢◌, ◌≤◌, ◌<◌, IfOk, IsErr, OnOk};
+ghost use Rattle.std.specs.Prelude.{◌≡◌, ◌≢◌, ◌≤◌, IfOk, IsErr, OnOk};
 ghost use Rattle.base.specs.formats.Geometry.{IsGeometry};
 ghost use Rattle.read_commands.specs.Checks.{StaysOpened};
 ghost use Rattle.read_commands.specs.JsonLabels.{PrintsLabels};
+ghost use Rattle.read_commands.specs.Undone.{ChecksUndone};
 
 use crate::failure::{Failure, NotesRefusals, report_failure};
 use crate::label_lines::{ConfigFound, Labels, read_opened_labels};
-use base::Group;
+use crate::label_texts::{Active, Label, Ring, active_of, ring_of};
 use command_arguments::Verbosity;
 use device_model::SectorDevice;
 use file_devices::FileRefusal;
@@ -32,6 +33,7 @@ pub fn run_json_labels<D: SectorDevice + NotesRefusals, W: Write, E: Write>(
     ensures unusable { IsErr opened.old → result ≡ 3 }
     ensures size { IfOk opened.old (λ device. (IsGeometry (D.size device) → ⊥) → result ≡ 1) }
     ensures printed { result ≡ 0 → PrintsLabels (W.contents out.old) (W.contents out.new) }
+    ensures undone { result ≢ 0 → ChecksUndone D.SectorDevice opened.old opened.new result }
     ensures unprinted { result ≡ 1 → W.contents out.new ≡ W.contents out.old }
     ensures range { result ≤ 3 }
     ensures no_usage { result ≢ 2 }
@@ -52,77 +54,56 @@ fn write_labels<W: Write>(labels: &Labels, out: &mut W) -> io::Result<()>
     writeln!(
         out,
         r#"{{"labels":[{},{},{},{}],"active":{}}}"#,
-        Label {
+        JsonLabel(Label {
             number: 0,
             config: &labels.configs[0],
             ring: ring_of(labels, 0)
-        },
-        Label {
+        }),
+        JsonLabel(Label {
             number: 1,
             config: &labels.configs[1],
             ring: ring_of(labels, 1)
-        },
-        Label {
+        }),
+        JsonLabel(Label {
             number: 2,
             config: &labels.configs[2],
             ring: ring_of(labels, 2)
-        },
-        Label {
+        }),
+        JsonLabel(Label {
             number: 3,
             config: &labels.configs[3],
             ring: ring_of(labels, 3)
-        },
-        active_of(labels)
+        }),
+        JsonActive(active_of(labels))
     )
-}
-
-fn ring_of(labels: &Labels, label: usize) -> Ring
-    requires { label < 4 }
-{
-    let (count, highest) = labels.count_uberblocks(label);
-    Ring { count, highest }
-}
-
-fn active_of(labels: &Labels) -> Active {
-    let Some(group) = labels.active_group() else {
-        return Active::Missing;
-    };
-    match labels.label_of(group) {
-        Some(label) => Active::Found(group, label),
-        None => Active::Unplaced(group),
-    }
 }
 
 /// A label, as JSON.
 #[derive(Clone, Copy)]
-struct Label<'a> {
-    number: usize,
-    config: &'a ConfigFound,
-    ring: Ring,
-}
+struct JsonLabel<'a>(Label<'a>);
 
-impl fmt::Display for Label<'_> {
+impl fmt::Display for JsonLabel<'_> {
     ghost use Rattle.std.specs.Prelude.{Some};
     ghost use Rattle.read_commands.specs.JsonLabels.{json_label};
 
-    ghost output = { λ l. Some (json_label l.number l.config.now l.ring.count l.ring.highest.0) };
+    ghost output = { λ l. Some (json_label l.0.number l.0.config.now l.0.ring.count l.0.ring.highest.0) };
 
     fn fmt<W: fmt::Write>(&self, f: &mut fmt::Formatter<W>) -> fmt::Result {
         write!(
             f,
             r#"{{"label":{},"config":{},{}}}"#,
-            self.number,
-            Config(self.config),
-            self.ring
+            self.0.number,
+            JsonConfig(self.0.config),
+            JsonRing(self.0.ring)
         )
     }
 }
 
 /// The config of a label as JSON, or `null` and why there is none.
 #[derive(Clone, Copy)]
-struct Config<'a>(&'a ConfigFound);
+struct JsonConfig<'a>(&'a ConfigFound);
 
-impl fmt::Display for Config<'_> {
+impl fmt::Display for JsonConfig<'_> {
     ghost use Rattle.std.specs.Prelude.{Some};
     ghost use Rattle.read_commands.specs.JsonLabels.{json_config};
 
@@ -147,45 +128,35 @@ impl fmt::Display for Config<'_> {
 
 /// How many uberblocks a label has, and the highest group of these, as JSON.
 #[derive(Clone, Copy)]
-struct Ring {
-    count: usize,
-    highest: Group,
-}
+struct JsonRing(Ring);
 
-impl fmt::Display for Ring {
+impl fmt::Display for JsonRing {
     ghost use Rattle.std.specs.Prelude.{Some};
     ghost use Rattle.read_commands.specs.JsonLabels.{json_ring};
 
-    ghost output = { λ r. Some (json_ring r.count r.highest.0) };
+    ghost output = { λ r. Some (json_ring r.0.count r.0.highest.0) };
 
     fn fmt<W: fmt::Write>(&self, f: &mut fmt::Formatter<W>) -> fmt::Result {
-        let count = self.count;
+        let count = self.0.count;
         if count == 0 {
             return write!(f, r#""uberblocks":0"#);
         }
-        write!(f, r#""uberblocks":{count},"highest":{}"#, self.highest.0)
+        write!(f, r#""uberblocks":{count},"highest":{}"#, self.0.highest.0)
     }
 }
 
 /// The active uberblock, as JSON.
 #[derive(Clone, Copy)]
-enum Active {
-    /// There is none.
-    Missing,
-    /// That of this group, of which no label is known.
-    Unplaced(Group),
-    /// That of this group, and the lowest label that has it.
-    Found(Group, usize),
-}
+struct JsonActive(Active);
 
-impl fmt::Display for Active {
+impl fmt::Display for JsonActive {
     ghost use Rattle.std.specs.Prelude.{Some};
     ghost use Rattle.read_commands.specs.JsonLabels.{json_active};
 
-    ghost output = { λ a. Some (json_active a) };
+    ghost output = { λ a. Some (json_active a.0) };
 
     fn fmt<W: fmt::Write>(&self, f: &mut fmt::Formatter<W>) -> fmt::Result {
-        match self {
+        match self.0 {
             Active::Missing => write!(f, "null"),
             Active::Unplaced(group) => write!(f, r#"{{"group":{}}}"#, group.0),
             Active::Found(group, label) => {

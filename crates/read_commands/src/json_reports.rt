@@ -10,6 +10,7 @@ ghost use Rattle.read_commands.specs.Checks.{StaysOpened};
 ghost use Rattle.read_commands.specs.PoolLines.{WritesInspected};
 ghost use Rattle.read_commands.specs.ReadScopes.{WritesObjects};
 ghost use Rattle.read_commands.specs.Json.{json_listed, json_next, json_numbers, json_objects, json_shown};
+ghost use Rattle.read_commands.specs.Undone.{InspectsUndone, ObjectsUndone};
 
 use crate::failure::{Failure, NotesRefusals, report_failure};
 use crate::lists::list_opened;
@@ -41,6 +42,7 @@ pub fn run_json_show<D: SectorDevice + NotesRefusals, W: Write, E: Write>(
     ensures shown { result ≡ 0 → IfOk opened.old (λ device.
         WritesInspected (IsTrue D.keeps_model) (bytes_of (D.disk device).now) json_shown
         (W.contents out.old) (W.contents out.new)) }
+    ensures undone { result ≢ 0 → InspectsUndone D.SectorDevice opened.old opened.new result }
     ensures unprinted { result ≡ 1 → W.contents out.new ≡ W.contents out.old }
     ensures range { result ≤ 3 }
     ensures no_usage { result ≢ 2 }
@@ -58,7 +60,7 @@ pub fn run_json_show<D: SectorDevice + NotesRefusals, W: Write, E: Write>(
 /// Writes to `out` as JSON the objects of the pool in a file, each with its number, its length and the most blocks that
 /// it may have, and returns the exit status. It only reads the file: it makes no write and no flush, whatever it
 /// returns. If the scope is a path, it reads the root, the directories and the log alone, and finds no damage of another
-/// block.
+/// block. An image mounts one contents, so an import of it has the objects that were written.
 ///
 /// The status and what is reported on `errors` are those of `run_show`.
 pub fn run_json_list<D: SectorDevice + NotesRefusals, W: Write, E: Write>(
@@ -75,6 +77,8 @@ pub fn run_json_list<D: SectorDevice + NotesRefusals, W: Write, E: Write>(
     ensures listed { result ≡ 0 → IfOk opened.old (λ device.
         WritesObjects scope (IsTrue D.keeps_model) (bytes_of (D.disk device).now) json_listed
         (W.contents out.old) (W.contents out.new)) }
+    ensures undone { result ≢ 0
+        → ObjectsUndone D.SectorDevice scope opened.old opened.new result }
     ensures unprinted { result ≡ 1 → W.contents out.new ≡ W.contents out.old }
     ensures range { result ≤ 3 }
     ensures no_usage { result ≢ 2 }

@@ -8,17 +8,19 @@ ghost use Rattle.base.specs.formats.Geometry.{IsGeometry};
 ghost use Rattle.device_model.specs.Reading.{OnlyReads};
 ghost use Rattle.read_commands.specs.Checks.{IsCheckRefusal, StaysOpened};
 ghost use Rattle.read_commands.specs.FoundLabels.{IsReasonOf, IsStateOf, config_bytes_at, state_of};
-ghost use Rattle.read_commands.specs.Undone.{IsCheckRefused, IsLookFailure};
+ghost use Rattle.read_commands.specs.LabelTexts.{WritesFour};
+ghost use Rattle.read_commands.specs.Undone.{IsCheckRefused, IsLookFailure, ChecksUndone};
 ghost use Rattle.uberblocks.specs.Rings.{ring_size};
 
 use crate::failure::{Failure, NotesRefusals, report_failure};
+use crate::label_texts::write_labels;
 use base::{BLOCK_SIZE, Group, PoolError, are_zeros, read_u64};
 use command_arguments::Verbosity;
 use device_model::SectorDevice;
 use file_devices::FileRefusal;
 use labels::{ARRAY_AT, Geometry, LabelConfig};
 use std::alloc::Global;
-use std::io::{self, Write};
+use std::io::Write;
 use uberblocks::{ARRAY_SIZE, LABEL_COUNT, SLOT_COUNT, SLOT_SIZE, Uberblock, active, slot};
 
 /// Where the block of a config has the size of its device.
@@ -41,6 +43,8 @@ pub fn run_labels<D: SectorDevice + NotesRefusals, W: Write, E: Write>(
     ensures only_read { StaysOpened D.SectorDevice opened.old opened.new }
     ensures unusable { IsErr opened.old → result ≡ 3 }
     ensures size { IfOk opened.old (λ device. (IsGeometry (D.size device) → ⊥) → result ≡ 1) }
+    ensures printed { result ≡ 0 → WritesFour (W.contents out.old) (W.contents out.new) }
+    ensures undone { result ≢ 0 → ChecksUndone D.SectorDevice opened.old opened.new result }
     ensures unprinted { result ≡ 1 → W.contents out.new ≡ W.contents out.old }
     ensures range { result ≤ 3 }
     ensures no_usage { result ≢ 2 }
@@ -67,6 +71,7 @@ pub fn read_opened_labels<D: SectorDevice + NotesRefusals>(
     ensures unusable { IfErr opened.old (λ cause. result ≡ Err (Failure.Unusable cause)) }
     ensures size { IfOk opened.old (λ device. (IsGeometry (D.size device) → ⊥)
         → result ≡ Err (Failure.Refused PoolError.BadGeometry)) }
+    ensures sized { OnOk result (IfOk opened.old (λ device. IsGeometry (D.size device))) }
     ensures failed { IfErr result
         (IsLookFailure (IsCheckRefused D.SectorDevice) opened.old opened.new) }
 {
@@ -267,53 +272,6 @@ fn find_contents(block: &[u8; BLOCK_SIZE]) -> ConfigFound
         ConfigFound::Zeros
     } else {
         ConfigFound::Unchecked
-    }
-}
-
-fn write_labels<W: Write>(labels: &Labels, out: &mut W) -> io::Result<()> {
-    for label in 0..LABEL_COUNT {
-        write!(out, "label {label} config ")?;
-        write_config(&labels.configs[label], out)?;
-        write_uberblocks(labels, label, out)?;
-    }
-    write_active(labels, out)
-}
-
-fn write_config<W: Write>(config: &ConfigFound, out: &mut W) -> io::Result<()> {
-    match config {
-        ConfigFound::Config(config) => {
-            let (name, group) = (config.name(), config.group());
-            writeln!(out, "{name} {} {group} {}", config.guid(), config.size())
-        }
-        ConfigFound::OfSize(size) => writeln!(out, "none size {size}"),
-        ConfigFound::Zeros => writeln!(out, "none zeros"),
-        ConfigFound::Unchecked => writeln!(out, "none check"),
-    }
-}
-
-// How many uberblocks a label has, and the highest group of these.
-fn write_uberblocks<W: Write>(labels: &Labels, label: usize, out: &mut W) -> io::Result<()>
-    requires { label < 4 }
-{
-    let (count, highest) = labels.count_uberblocks(label);
-    if count == 0 {
-        return writeln!(out, "label {label} uberblocks 0");
-    }
-    writeln!(
-        out,
-        "label {label} uberblocks {count} highest {}",
-        highest.0
-    )
-}
-
-// The active uberblock, and the lowest label that has it.
-fn write_active<W: Write>(labels: &Labels, out: &mut W) -> io::Result<()> {
-    let Some(group) = labels.active_group() else {
-        return writeln!(out, "active none");
-    };
-    match labels.label_of(group) {
-        Some(label) => writeln!(out, "active {} of label {label}", group.0),
-        None => writeln!(out, "active {}", group.0),
     }
 }
 

@@ -27,6 +27,7 @@ mod json_labels;
 mod json_reports;
 mod label_lines;
 mod label_states;
+mod label_texts;
 mod lists;
 mod long_list;
 mod name_causes;

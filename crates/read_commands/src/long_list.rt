@@ -6,6 +6,7 @@ ghost use Rattle.base.specs.disk.Disk.{bytes_of};
 ghost use Rattle.read_commands.specs.Checks.{StaysOpened};
 ghost use Rattle.read_commands.specs.ReadScopes.{WritesObjects};
 ghost use Rattle.read_commands.specs.ObjectBlocks.{long_lines};
+ghost use Rattle.read_commands.specs.Undone.{ObjectsUndone};
 
 use crate::failure::{Failure, NotesRefusals, report_failure};
 use crate::lists::list_opened;
@@ -21,7 +22,7 @@ use std::io::{self, Write};
 /// Writes to `out` the objects of the pool in a file, a line each with its number, its length and the most blocks that
 /// it may have, and returns the exit status. It only reads the file: it makes no write and no flush, whatever it
 /// returns. If the scope is a path, it reads the root, the directories and the log alone, and finds no damage of another
-/// block.
+/// block. An image mounts one contents, so an import of it has the objects that were written.
 ///
 /// The status and what is reported on `errors` are those of `run_show`.
 pub fn run_long_list<D: SectorDevice + NotesRefusals, W: Write, E: Write>(
@@ -38,6 +39,8 @@ pub fn run_long_list<D: SectorDevice + NotesRefusals, W: Write, E: Write>(
     ensures listed { result ≡ 0 → IfOk opened.old (λ device.
         WritesObjects scope (IsTrue D.keeps_model) (bytes_of (D.disk device).now) long_lines
         (W.contents out.old) (W.contents out.new)) }
+    ensures undone { result ≢ 0
+        → ObjectsUndone D.SectorDevice scope opened.old opened.new result }
     ensures unprinted { result ≡ 1 → W.contents out.new ≡ W.contents out.old }
     ensures range { result ≤ 3 }
     ensures no_usage { result ≢ 2 }

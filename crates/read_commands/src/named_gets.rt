@@ -1,8 +1,9 @@
 //! The command `get` of an object by its name. It only reads.
 
-ghost use Rattle.std.specs.Prelude.{◌≡◌, ◌≢◌, ◌≤◌, Err, IfOk, IsErr, IsOk, IsTrue, false};
+ghost use Rattle.std.specs.Prelude.{◌≡◌, ◌≢◌, ◌≤◌, Err, IfErr, IfOk, IsErr, IsOk, IsTrue, false};
 ghost use Rattle.base.specs.disk.Disk.{bytes_of};
-ghost use Rattle.read_commands.specs.NamedObjects.{IsCheckedName, IsMountedName, WritesNamed, named_range};
+ghost use Rattle.read_commands.specs.NamedObjects.{IsCheckedName, IsMountedName, IsUnknown, WritesNamed, named_range};
+ghost use Rattle.read_commands.specs.NamedUndone.{GetsNamedUndone, IsFindFailure};
 ghost use Rattle.object_names.specs.NameTables.{IsNamed};
 ghost use Rattle.object_names.specs.Names as names;
 ghost use Rattle.read_commands.specs.Checks.{IsOnlyRead, StaysOpened};
@@ -43,6 +44,8 @@ pub fn run_get_named<D: SectorDevice + NotesRefusals, W: Write, E: Write>(
         WritesNamed scope (IsTrue D.keeps_model) (bytes_of (D.disk device).now)
         arguments.entry.name.now (named_range arguments.entry)
         (W.contents out.old) (W.contents out.new)) }
+    ensures undone { result.0 ≢ 0 → GetsNamedUndone D.SectorDevice scope
+        arguments.entry.name.now (named_range arguments.entry) opened result.1 result.0 }
     ensures unprinted { result.0 ≡ 1 → W.contents out.new ≡ W.contents out.old }
     ensures range { result.0 ≤ 3 }
     ensures no_usage { result.0 ≢ 2 }
@@ -93,6 +96,8 @@ fn find_object<D: SectorDevice + NotesRefusals>(
         → IfOk result.0 (λ n. IsMountedName (bytes_of (D.disk device).now) name.now n.0) }
     ensures checked { scope ≡ Scope.Path → IsTrue D.keeps_model → IfOk result.0
         (λ n. IsCheckedName (bytes_of (D.disk device).now) name.now n.0) }
+    ensures failed { IfErr result.0
+        (IsFindFailure D.SectorDevice scope name.now device result.1) }
 {
     if !is_object_name(name.as_bytes()) {
         return (Err(NameFailure::Name(NameCause::NoName)), device);
@@ -110,7 +115,9 @@ fn find_object<D: SectorDevice + NotesRefusals>(
 
 // The object of a name in a table.
 fn find(table: &NameTable, name: &str) -> Result<ObjectId, NameFailure>
-    ensures { IfOk result (λ n. IsNamed table.now n.0 name.now) }
+    ensures found { IfOk result (λ n. IsNamed table.now n.0 name.now) }
+    ensures unknown { IfErr result (λ why. (why ≡ NameFailure.Name NameCause.Unknown)
+        × IsUnknown table.now name.now) }
 {
     match table.find(name.as_bytes()) {
         Some(object) => Ok(object),

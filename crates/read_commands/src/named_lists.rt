@@ -7,6 +7,7 @@ ghost use Rattle.device_model.specs.Reading.{OnlyReads};
 ghost use Rattle.read_commands.specs.Checks.{StaysOpened};
 ghost use Rattle.read_commands.specs.NamedLines.{IsListedIn, WritesNames, list_lines, name_shown, named_line};
 ghost use Rattle.object_names.specs.NameTables.{has_object};
+ghost use Rattle.read_commands.specs.NamedUndone.{IsNamesRefused, NamesUndone};
 ghost use Rattle.read_commands.specs.Reads.{IsReadersRefusal};
 
 use crate::failure::{Failure, NotesRefusals, report_failure};
@@ -78,6 +79,7 @@ pub fn run_list_named<D: SectorDevice + NotesRefusals, W: Write, E: Write>(
     ensures listed { result.0 ≡ 0 → IfOk opened (λ device.
         WritesNames scope (IsTrue D.keeps_model) (bytes_of (D.disk device).now)
         (W.contents out.old) (W.contents out.new)) }
+    ensures undone { result.0 ≢ 0 → NamesUndone D.SectorDevice scope opened result.1 result.0 }
     ensures unprinted { result.0 ≡ 1 → W.contents out.new ≡ W.contents out.old }
     ensures range { result.0 ≤ 3 }
     ensures no_usage { result.0 ≢ 2 }
@@ -121,6 +123,7 @@ pub fn list_names<D: SectorDevice>(
     ensures listed { IfOk result.0
         (IsListedIn scope (IsTrue D.keeps_model) (bytes_of (D.disk device).now)) }
     ensures refused { IfErr result.0 IsReadersRefusal }
+    ensures cause { IfErr result.0 (IsNamesRefused D.SectorDevice scope device result.1) }
 {
     let mut device = device;
     let objects = match list_objects(alloc, scope, &mut device) {

@@ -9,6 +9,7 @@ ghost use Rattle.base.specs.disk.Disk.{bytes_of};
 ghost use Rattle.read_commands.specs.Checks.{StaysOpened};
 ghost use Rattle.read_commands.specs.PoolLines.{WritesInspected};
 ghost use Rattle.read_commands.specs.Space.{block_bytes, letter_of, pool_space_lines, power_of, space_lines, space_of};
+ghost use Rattle.read_commands.specs.Undone.{InspectsUndone};
 
 use crate::failure::{Failure, NotesRefusals, report_failure};
 use crate::show::inspect_opened;
@@ -52,6 +53,7 @@ pub fn run_space<D: SectorDevice + NotesRefusals, W: Write, E: Write>(
     ensures measured { result ≡ 0 → IfOk opened.old (λ device.
         WritesInspected (IsTrue D.keeps_model) (bytes_of (D.disk device).now)
         (pool_space_lines arguments.entry.unit) (W.contents out.old) (W.contents out.new)) }
+    ensures undone { result ≢ 0 → InspectsUndone D.SectorDevice opened.old opened.new result }
     ensures unprinted { result ≡ 1 → W.contents out.new ≡ W.contents out.old }
     ensures range { result ≤ 3 }
     ensures no_usage { result ≢ 2 }

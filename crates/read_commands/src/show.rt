@@ -9,7 +9,7 @@ ghost use Rattle.read_commands.specs.Checks.{StaysOpened};
 ghost use Rattle.base.specs.tree.Mount.{IsMounted, Mount};
 ghost use Rattle.object_views.specs.Listings.{IsListingOf, IsListingOfMount, IsListingRefused};
 ghost use Rattle.read_commands.specs.PoolLines.{WritesInspected, WritesListing, fast_lines, fast_number_lines, number_lines, object_lines, shown_lines};
-ghost use Rattle.read_commands.specs.Undone.{InspectsUndone, IsLookFailure};
+ghost use Rattle.read_commands.specs.Undone.{InspectsUndone, IsLookFailure, ListsUndone};
 
 use crate::failure::{Failure, NotesRefusals, report_failure};
 use base::ObjectId;
@@ -72,6 +72,7 @@ pub fn run_show_fast<D: SectorDevice + NotesRefusals, W: Write, E: Write>(
     ensures shown { result ≡ 0 → IfOk opened.old (λ device.
         WritesListing (IsTrue D.keeps_model) (bytes_of (D.disk device).now) fast_lines
         (W.contents out.old) (W.contents out.new)) }
+    ensures undone { result ≢ 0 → ListsUndone D.SectorDevice opened.old opened.new result }
     ensures unprinted { result ≡ 1 → W.contents out.new ≡ W.contents out.old }
     ensures range { result ≤ 3 }
     ensures no_usage { result ≢ 2 }

@@ -38,7 +38,7 @@ use Rattle.frames.specs.declared.request.Request.{Request}
 use Rattle.frames.proofs.Appended.{length-listed}
 use Rattle.pool_threads.specs.declared.handle.Handle.{Handle}
 use Rattle.pool_threads.specs.Answers.{Makes, state_seen}
-use Rattle.pool_threads.specs.Fetches.{Fetches, ReadsUnderLock}
+use Rattle.pool_threads.specs.Fetches.{Fetches}
 use Rattle.pool_threads.specs.Views.{viewed_state}
 use Rattle.durable_answers.specs.Durability.{Asks, AsksAll, MakesDurable}
 use Rattle.serving.specs.Calls.{ListsObjects, MakesCall, MakesCalls, outcome_of}
@@ -117,11 +117,11 @@ all_bytes_fit [] (a ∷ answers) fit = absurd fit
 all_bytes_fit (r ∷ rs) [] fit = absurd fit
 
 module _ {Dev : Type 0} {G : Ghosts Dev} (keeps : IsTrue G.keeps_model) where
-  fetched_short : (owner : Owner) (n : ObjectId) (range : Range) (bytes : List ℕ) (old new : Handle Dev G) → ReadsUnderLock owner n range (Ok bytes) old new → length bytes ≤ min (range.high - range.low) max_length
-  fetched_short owner n range bytes old new t =
-      let made = t.reads.made.made in
-      ∥∥₁_elim made.explained le_prop (λ x.
-      ∥∥₁_elim (made.over keeps) le_prop (λ one. read_short owner n range bytes (bytes_of t.reads.made.took.disk.now) (viewed_state t.reads.made.took) (state_seen t.read) x one))
+  fetched_short : (owner : Owner) (n : ObjectId) (range : Range) (bytes : List ℕ) (old new : Handle Dev G) → Fetches owner n range (Ok bytes) old new → length bytes ≤ min (range.high - range.low) max_length
+  fetched_short owner n range bytes old new u =
+      let t = u.made.made in
+      ∥∥₁_elim t.reads.explained le_prop (λ x.
+      ∥∥₁_elim (t.reads.over keeps) le_prop (λ one. read_short owner n range bytes (bytes_of t.locked.disk.now) (viewed_state t.locked) (viewed_state t.read) x one))
 
   fetched_fits : (owner : Owner) (n : ObjectId) (range : Range) (result : Result (List ℕ) PoolError) (old new : Handle Dev G) → Fetches owner n range result old new → IfOk result (λ bytes. Fits (room_of_call (call.Read n range)) (outcome.Bytes bytes))
   fetched_fits owner n range (Ok bytes) old new t =

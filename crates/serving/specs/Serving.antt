@@ -3,7 +3,6 @@ use Rattle.std.specs.Prelude.{ℕ, ◌≡◌, ◌≢◌, ◌⊎◌, IfOk, IfSome
 use Rattle.std.specs.Io.KnownBytes.{Appends}
 use Rattle.base.specs.declared.error.PoolError.{PoolError}
 use Rattle.base.specs.declared.names.Group.{Group}
-use Rattle.base.specs.kept.Imports.{are_limits_allowed}
 use Rattle.device_model.specs.declared.device.SectorDevice.{Ghosts}
 use Rattle.file_devices.specs.declared.held_file.FileRefusal.{FileRefusal}
 use Rattle.serving.specs.Inputs.{BeginsWithFrames, EndsWell, Exchange, ServesFrames, Streams, program}
@@ -15,7 +14,7 @@ use Rattle.frames.specs.declared.opening.Opening.{Opening}
 use Rattle.import_replay.specs.ImportRefusals.{IsImportRefusal}
 use Rattle.running_pools.specs.LeftDevices.{ClosesAfter, HasAllOf, HoldsRunUpon}
 use Rattle.pool_threads.specs.Answers.{state_seen}
-use Rattle.pool_threads.specs.Handles.{IsLeftBehind, IsNewHandle, OpensBehind, ShowsImport, moment_in, opened_in, opening_view, shared_of}
+use Rattle.pool_threads.specs.Handles.{IsLeftBehind, IsNewHandle, OpensBehind, ShowsImport, are_shared_limits_allowed, moment_in, opened_in, opening_view, shared_of}
 use Rattle.pool_threads.specs.declared.handle.Handle.{Handle}
 use Rattle.pool_threads.specs.declared.handle.LastSeen.{LastSeen}
 use Rattle.pool_threads.specs.declared.opened.Opened.{Opened}
@@ -91,7 +90,7 @@ module _ {Dev : Type 0} (G : Ghosts Dev) where
 
   -- why the pool of this device wasn't opened
   abbrev pub IsUnopened : Dev → ServeArguments → Failure → Type 0
-  IsUnopened device given failure = (e : PoolError) × IsImportRefusal (G.size device) (are_limits_allowed given.dirty_max given.cache_blocks) e × (refusal_of failure ≡ Some e)
+  IsUnopened device given failure = (e : PoolError) × IsImportRefusal (G.size device) (are_shared_limits_allowed given.dirty_max given.cache_blocks) e × (refusal_of failure ≡ Some e)
 
   -- So it was opened, and served. The first frame says what its import found and did.
   pub record ServesOn (device : Dev) (given : ServeArguments) (status : ℕ) (old new : Streams) : Type 0 where
@@ -104,7 +103,7 @@ module _ {Dev : Type 0} (G : Ghosts Dev) where
   -- it was refused, and the first frame has the refusal
   pub record RefusesToServe (device : Dev) (given : ServeArguments) (status : ℕ) (old new : Streams) : Type 0 where
     pub error : PoolError
-    pub refused : IsImportRefusal (G.size device) (are_limits_allowed given.dirty_max given.cache_blocks) error
+    pub refused : IsImportRefusal (G.size device) (are_shared_limits_allowed given.dirty_max given.cache_blocks) error
     pub stays : StaysUnopened (Some error) status old new
 
   abbrev pub ServesOrRefuses : Result Dev FileRefusal → ServeArguments → ℕ → Streams → Streams → Type 0

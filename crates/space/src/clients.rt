@@ -1,8 +1,10 @@
 //! What callers rest on: one function for each promise of this crate's calls, proved from the contract of the call
 //! alone. So it is refused as soon as that contract says less.
 
-ghost use Rattle.std.specs.Prelude.{◌≡◌, ◌≤◌, ◌<◌, IfOk, IfSome, IsErrOf, IsSome, IsTrue, false, get_or, length, true};
+ghost use Rattle.std.specs.Prelude.{◌≡◌, ◌≤◌, ◌<◌, ◌∷◌, [], IfErr, IfOk, IfSome, IsErr, IsErrOf, IsSome, IsTrue, false, get_or, length, true};
 ghost use Rattle.std.specs.FinSet as set;
+ghost use Rattle.base.specs.common.Rising.{rising};
+ghost use Rattle.base.specs.formats.Geometry.{block_address};
 ghost use Rattle.space.specs.FreeSets.{is_free};
 
 use crate::bit_flags::BitFlags;
@@ -115,6 +117,27 @@ fn a_free_block_is_not_passed_over(free: &FreeSet) -> Option<usize>
     ensures { IfSome result (λ block. block ≤ 3) }
 {
     free.next_from(1)
+}
+
+fn the_lowest_two_of_three_free_blocks_are_found(
+    alloc: Global,
+    free: &FreeSet,
+) -> Result<Vec<usize>, PoolError>
+    requires { rising free.now.free ≡ block_address 7 ∷ block_address 9 ∷ block_address 10 ∷ [] }
+    ensures found { IfOk result (λ blocks. blocks.items ≡ 7 ∷ 9 ∷ []) }
+    ensures enough { IfErr result (λ e. e ≡ PoolError.NoMemory) }
+{
+    free.lowest(alloc, 2)
+}
+
+fn four_of_three_free_blocks_are_not_found(
+    alloc: Global,
+    free: &FreeSet,
+) -> Result<Vec<usize>, PoolError>
+    requires { rising free.now.free ≡ block_address 7 ∷ block_address 9 ∷ block_address 10 ∷ [] }
+    ensures { IsErr result }
+{
+    free.lowest(alloc, 4)
 }
 
 fn a_count_of_free_blocks_is_theirs(free: &FreeSet) -> u64

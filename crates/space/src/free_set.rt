@@ -9,8 +9,9 @@
 //! synced. What the syncing group has taken is counted apart, for it is in its own reservation: the blocks that are
 //! available are those that are free, except what is reserved and not yet taken.
 
-ghost use Rattle.std.specs.Prelude.{◌≡◌, ◌+◌, ◌<◌, ◌≤◌, ◌∷◌, [], ◌↔◌, IsErr, IsTrue, IfErr, IfNone, IfOk, IfSome, OnErr, OnOk};
+ghost use Rattle.std.specs.Prelude.{◌≡◌, ◌+◌, ◌<◌, ◌≤◌, ◌⊎◌, ◌∷◌, [], ◌↔◌, All, IsErr, IsTrue, IfErr, IfNone, IfOk, IfSome, OnErr, OnOk, length, map, take, vec_len};
 ghost use Rattle.std.specs.FinSet as set;
+ghost use Rattle.base.specs.common.Rising.{rising};
 ghost use Rattle.base.specs.formats.Geometry.{block_address};
 ghost use Rattle.space.specs.FreeSets.{AreBlockAddresses, AreNotFree, HasAllOf, IsIdle, IsLowestFree, after_give, after_reserve, after_sync_end, after_sync_take, after_take, after_unreserve, available_in, free_from, is_free, is_short, most_taken};
 ghost use Rattle.space.specs.SetFlags.{AreClear};
@@ -166,6 +167,38 @@ impl FreeSet {
             }
             None => Err(PoolError::NoSpace),
         }
+    }
+
+    /// The lowest so many free blocks, rising. Nothing is taken.
+    ///
+    /// # Errors
+    /// `NoSpace` only if fewer are free. `NoMemory`.
+    pub fn lowest(&self, alloc: Global, count: usize) -> Result<Vec<usize>, PoolError>
+        ensures count { IfOk result (λ blocks. vec_len blocks ≡ count) }
+        ensures lowest { IfOk result (λ blocks.
+            map block_address blocks.items ≡ take count (rising self.now.free)) }
+        ensures within { IfOk result (λ blocks.
+            All (λ block. block < self.now.blocks) blocks.items) }
+        ensures full { IfErr result
+            (λ e. e ≡ PoolError.NoSpace → length (rising self.now.free) < count) }
+        ensures refused { IfErr result
+            (λ e. (e ≡ PoolError.NoSpace) ⊎ (e ≡ PoolError.NoMemory)) }
+    {
+        let mut blocks = Vec::with_capacity(alloc, count)?;
+        let mut next = 0;
+        let end = self.blocks();
+        'places: for i in 0..count {
+            match self.next_from(next) {
+                Some(block) => {
+                    let there = block < end;
+                    prove!(there);
+                    blocks.push_reserved(block);
+                    next = block + 1;
+                }
+                None => return Err(PoolError::NoSpace),
+            }
+        }
+        Ok(blocks)
     }
 
     /// So many blocks more are reserved. So many of those that are available are kept back: they are not given to this

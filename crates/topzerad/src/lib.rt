@@ -99,7 +99,7 @@ pub use device_model::{Fault, MemDevice, SectorDevice};
 pub use file_devices::{
     Access, CallCause, FileCall, FileDevice, FileRefusal, HeldFile, RefusedCall, SectorFile,
 };
-pub use import_replay::{Imported, Limits, create, import};
+pub use import_replay::{GREATEST_SHARED_CACHE_BLOCKS, Imported, Limits, create, import};
 pub use inspections::{Inspected, Soundness, View, find_damages, inspect, view_pool};
 pub use mounted::Mounted;
 pub use object_views::{ListedPool, ObjectView, PoolPaths, find_paths, list_pool, view_object};

@@ -6,3 +6,5 @@ pub mod ReadPointers
 pub mod Payloads
 pub mod Entries
 pub mod Records
+pub mod Bytes
+pub mod TreeObjects

@@ -1,6 +1,7 @@
 pub mod Entries
 pub mod Pointers
 pub mod Lengths
+pub mod TreeObjects
 pub mod EmptyEntries
 pub mod SetEntries
 pub mod ListedObjects
@@ -9,3 +10,4 @@ pub mod Forms
 pub mod ReadPointers
 pub mod SyncedTrees
 pub mod Sources
+pub mod Bytes

@@ -1,12 +1,10 @@
 -- Objects within the limits of a pool, and the list of their lengths.
-use Rattle.std.specs.Prelude.{ℕ, ◌≡◌, ◌≤◌, ◌<◌, IfSome, List, length, map}
+use Rattle.std.specs.Prelude.{ℕ, ◌≤◌, ◌<◌, IfSome, List, length, map}
 use Rattle.std.specs.Ordering.{nat_cmp}
 use Rattle.std.specs.FinMap as finite
 use Rattle.std.specs.FinMap.{FinMap}
 use Rattle.base.specs.declared.names.ObjectId.{ObjectId}
 use Rattle.base.specs.formats.Limits.{object_count, max_length}
-use Rattle.tree_blocks.specs.declared.tree.Tree.{Tree}
-use Rattle.tree_blocks.specs.Lengths.{HasLengthsOf}
 
 -- objects within the limits of a pool: each has a number below the count of objects, and is no longer than the greatest
 -- length
@@ -16,7 +14,3 @@ AreWithin objects = (n : ℕ) → IfSome (finite.get objects n) (λ bytes. (n < 
 -- the numbers of objects, rising, each with the object's length
 abbrev pub listed : FinMap nat_cmp (List ℕ) → List (ObjectId × ℕ)
 listed objects = map (λ (e : ℕ × List ℕ). (record { 0 = e.0 }, length e.1)) (finite.entries objects)
-
--- this is the list of all objects within their limits whose lengths a tree has
-abbrev pub ListsObjectsOf : Tree → List (ObjectId × ℕ) → Type 0
-ListsObjectsOf tree list = (objects : FinMap nat_cmp (List ℕ)) → AreWithin objects → HasLengthsOf tree objects → list ≡ listed objects

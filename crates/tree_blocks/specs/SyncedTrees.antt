@@ -6,7 +6,8 @@ use Rattle.base.specs.declared.pointer.Pointer.{Pointer}
 use Rattle.base.specs.tree.Places.{Place}
 use Rattle.tree_blocks.specs.declared.tree.ObjectEntry.{ObjectEntry}
 use Rattle.tree_blocks.specs.declared.tree.Tree.{Tree}
-use Rattle.tree_blocks.specs.Lengths.{lengths_of, with_lengths}
+use Rattle.tree_blocks.specs.Lengths.{with_lengths}
+use Rattle.tree_blocks.specs.TreeObjects.{lengths_of}
 use Rattle.tree_blocks.specs.Pointers.{entry_among, pointers_at, with_entries}
 
 -- the new root and directories, the new pointers of the objects that have new entries, and those of the tree for all

@@ -9,7 +9,7 @@ use Rattle.base.specs.formats.Fields.{no_pointer}
 use Rattle.base.specs.tree.Places.{Place}
 use Rattle.base.specs.tree.Syncs.{pointer_numbers}
 use Rattle.tree_blocks.specs.declared.tree.ObjectEntry.{ObjectEntry}
-use Rattle.tree_blocks.specs.Lengths.{lengths_of}
+use Rattle.tree_blocks.specs.TreeObjects.{lengths_of}
 use Rattle.tree_blocks.specs.Pointers.{ObjectPointers, object_pointers, pointer_of_list, pointers_by, pointers_of_entry, strip_in, told_record}
 use Rattle.tree_blocks.specs.declared.object_map.ObjectMap.{ObjectMap}
 use Rattle.tree_blocks.specs.ReadPointers.{records_among}

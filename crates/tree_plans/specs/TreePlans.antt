@@ -17,7 +17,7 @@ use Rattle.base.specs.kept.PlannedTrees.{AreFreed, IsTreePlan, NewBlock}
 use Rattle.base.specs.tree.Syncs.{written_by}
 use Rattle.base.specs.formats.Fields.{no_pointer}
 use Rattle.base.specs.common.Rising.{rising}
-use Rattle.tree_blocks.specs.Lengths.{lengths_of}
+use Rattle.tree_blocks.specs.TreeObjects.{lengths_of}
 use Rattle.tree_blocks.specs.declared.tree.ObjectEntry.{ObjectEntry}
 use Rattle.tree_plans.specs.declared.changes.ObjectChanges.{ObjectChanges}
 use Rattle.tree_plans.specs.declared.planner.PlannedBlock.{PlannedBlock}

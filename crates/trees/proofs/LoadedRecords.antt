@@ -17,7 +17,7 @@ use Rattle.base.specs.tree.Damages.{IsRecordPointerForm}
 use Rattle.base.proofs.tree.Strips.{strip-which}
 use Rattle.base.proofs.disk.Put.{length-put, part-put_same, part-put_apart}
 use Rattle.tree_blocks.specs.Pointers.{TellsStrip, payload_pointers, strip_in, told_record}
-use Rattle.contents.specs.Bytes.{AreBytes}
+use Rattle.tree_blocks.specs.Bytes.{AreBytes}
 use Rattle.trees.specs.SoundBlocks.{IsFormed}
 use Rattle.trees.specs.Loading.{AreLoadedRecords, AreLoadedStrips, HasZeroRecord, IsLoadedRecord, IsLoadedStrip, KeepsOthers}
 use Rattle.tree_blocks.proofs.ToldStrips.{payload_pointer, told-none, told-some}

@@ -6,8 +6,6 @@ use Rattle.base.specs.declared.pointer.Pointer.{Pointer}
 use Rattle.base.specs.disk.Disk.{Disk, bytes_of}
 use Rattle.tree_blocks.specs.declared.tree.ObjectEntry.{ObjectEntry}
 use Rattle.tree_blocks.specs.declared.forms.Entry.{Entry}
-use Rattle.contents.specs.ContentsShown.{objects_of}
-use Rattle.tree_blocks.specs.Lengths.{HaveLengthsOf}
 use Rattle.trees.specs.declared.objects.Objects.{Objects}
 use Rattle.trees.specs.FreeBlocks.{AreMarked}
 use Rattle.trees.specs.Loading.{AreEmptyFrom}
@@ -17,12 +15,12 @@ use Rattle.space.specs.FreeSets.{FreeSpace}
 abbrev pub OnWalk : Bool → Disk → (List ℕ → Pointer → Type 0) → Type 0
 OnWalk keeps disk P = IsTrue keeps → (image : List ℕ) (root : Pointer) → bytes_of disk.now ≡ image → P image root
 
--- slots and entries stand for these objects
+-- entries stand for these objects
 abbrev pub StandFor : Objects → FinMap nat_cmp (List ℕ) → Type 0
-StandFor o objects = (objects_of o.slots.items ≡ objects) × HaveLengthsOf o.entries.items objects
+StandFor o objects = o.told.value ≡ objects
 
--- Slots and entries stand for objects of which none is there from this number on. After a walk they stand for other
--- objects, and this is true of both and of the entries. The blocks that the new entries name are taken.
+-- Entries stand for objects of which none is there from this number on. After a walk they stand for other objects, and
+-- this is true of both and of the entries. The blocks that the new entries name are taken.
 abbrev pub LoadsFrom : ℕ → Objects → Objects → FreeSpace → FreeSpace → (FinMap nat_cmp (List ℕ) → FinMap nat_cmp (List ℕ) → List ObjectEntry → List ObjectEntry → Type 0) → Type 0
 LoadsFrom start old new free left P =
     (before : FinMap nat_cmp (List ℕ)) → StandFor old before → AreEmptyFrom start before old.entries.items

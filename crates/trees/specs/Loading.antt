@@ -12,7 +12,7 @@ use Rattle.base.specs.tree.Places.Place.{Root, Directory, Top, Indirect}
 use Rattle.base.specs.tree.Tree.{OpensAt, IsRecord, record_bytes}
 use Rattle.base.specs.kept.PlacedTrees.{HasNonePast, IsEntryFor, IsLong, IsPlaced, NeedsNoTop}
 use Rattle.tree_blocks.specs.declared.tree.ObjectEntry.{ObjectEntry}
-use Rattle.contents.specs.Bytes.{AreBytes}
+use Rattle.tree_blocks.specs.Bytes.{AreBytes}
 use Rattle.tree_blocks.specs.Pointers.{ObjectPointers, no_pointers, object_pointers, pointer_of_list, strip_in, told_record}
 
 -- the k-th record of strip m, with this pointer to it and these bytes of the object

@@ -2,33 +2,32 @@
 
 ghost use Rattle.std.specs.Prelude.{◌≡◌, vec_len};
 ghost use Rattle.base.specs.formats.Limits.{object_count};
+ghost use Rattle.tree_blocks.specs.Lengths.{HaveLengthsOf};
 
 use crate::marks::{take_block, take_blocks};
 use base::{Pointer, Told};
-use contents::{BytesView, Slot, empty_slots};
 use space::FreeSet;
 use std::alloc::{AllocError, Global};
-use tree_blocks::{ObjectEntry, Tree, empty_entries};
+use tree_blocks::{
+    BytesView, ObjectEntry, ObjectsView, Tree, empty_entries, no_objects, with_object,
+};
 
-/// What a load of a tree gives: a slot for each object number, the pointers, and the blocks that the tree leaves free.
+/// What a load of a tree gives: the tree in memory, and the blocks that it leaves free.
 #[derive(Drop)]
 pub struct Loaded {
-    /// The slot of each object, by the object's number.
-    pub slots: Vec<Slot>,
-    /// The pointers of the tree down to what its directories name, and the lengths of its objects.
+    /// The pointers of the tree down to what its directories name, and the lengths of its objects. The objects are told.
     pub tree: Tree,
     /// The blocks that no pointer of the tree names.
     pub free: FreeSet,
-    ghost all_slots: { vec_len slots ≡ object_count },
 }
 
-/// The slot and the entry of each object number.
+/// The entry of each object number, and the objects.
 #[derive(Drop)]
 pub(crate) struct Objects {
-    pub(crate) slots: Vec<Slot>,
     pub(crate) entries: Vec<ObjectEntry>,
-    ghost all_slots: { vec_len slots ≡ object_count },
+    pub(crate) told: Told<ObjectsView>,
     ghost all_entries: { vec_len entries ≡ object_count },
+    ghost sized: { HaveLengthsOf entries.items told.value },
 }
 
 impl Objects {
@@ -38,6 +37,7 @@ impl Objects {
     ghost use Rattle.std.specs.FinMap.{FinMap};
     ghost use Rattle.std.proofs.Math.ListN.{set};
     ghost use Rattle.base.specs.formats.Limits.{object_count, pointer_count};
+    ghost use Rattle.tree_blocks.specs.TreeObjects.{objects_of};
     ghost use Rattle.trees.specs.FreeBlocks.{AreMarked, AreUnnamed};
     ghost use Rattle.trees.specs.Loaders.{StandFor};
     ghost use Rattle.trees.specs.Loading.{AreEmptyFrom};
@@ -47,9 +47,11 @@ impl Objects {
         ensures objects { IfOk result (λ o. StandFor o finite.empty) }
         ensures empty { IfOk result (λ o. AreEmptyFrom 0 finite.empty o.entries.items) }
     {
-        let slots = empty_slots(alloc)?;
         let entries = empty_entries(alloc)?;
-        Ok(Objects { slots, entries })
+        Ok(Objects {
+            entries,
+            told: no_objects(),
+        })
     }
 
     // Puts an object into its place, with its entry.
@@ -60,11 +62,7 @@ impl Objects {
         ensures objects { (objects : FinMap nat_cmp (List ℕ)) → StandFor self.old objects
             → StandFor self.new (finite.insert objects number bytes.value) }
     {
-        self.slots[number] = Slot {
-            present: true,
-            size: entry.length.unwrap_or(0),
-            bytes,
-        };
+        self.told = with_object(&self.told, number, &bytes);
         self.entries[number] = entry;
     }
 
@@ -80,18 +78,19 @@ impl Objects {
         ensures root { result.tree.root ≡ root }
         ensures directories { result.tree.directories ≡ directories }
         ensures entries { result.tree.entries ≡ self.entries }
-        ensures slots { result.slots ≡ self.slots }
+        ensures objects { objects_of result.tree ≡ self.told.value }
         ensures free { (blocks : ℕ) → AreMarked self.entries.items blocks free
             → AreUnnamed blocks result.tree result.free }
     {
-        let Objects { slots, entries } = self;
+        let Objects { entries, told } = self;
         take_block(&mut free, root.address);
         take_blocks(&mut free, &directories);
         let tree = Tree {
             root,
             directories,
             entries,
+            objects: told,
         };
-        Loaded { slots, tree, free }
+        Loaded { tree, free }
     }
 }

@@ -17,7 +17,7 @@ ghost use Rattle.trees.specs.DamageLists.{AddsTold};
 ghost use Rattle.trees.specs.FreeBlocks.{ObjectNames, StripNames, StripsName, TakesNamed};
 ghost use Rattle.trees.specs.Loaders.{LoadsFrom, OnWalk};
 ghost use Rattle.object_maps.specs.BlockReads.{OnImage};
-ghost use Rattle.contents.specs.Bytes.{AreBytes};
+ghost use Rattle.tree_blocks.specs.Bytes.{AreBytes};
 ghost use Rattle.trees.specs.Loading.{AreLoadedDirectories, AreLoadedEntries, AreLoadedLevels, AreLoadedRecords, AreLoadedStrips, HasZeroRecord, IsLoadedObject, IsLoadedRecord, IsLoadedStrip, IsLoadedTree, KeepsOthers, LoadsDirectory};
 ghost use Rattle.object_maps.specs.BlockReads.{IsLoadRefusal};
 ghost use Rattle.trees.specs.Noted.{Finds, Notes, kept_entry};
@@ -33,14 +33,13 @@ use crate::read_ahead::ReadAhead;
 use crate::sound_blocks::sound_block;
 use crate::walk::{Loader, ToldObject};
 use base::{ENTRY_COUNT, ObjectId, POINTER_COUNT, Pointer, PoolError, RECORD_SIZE, Told};
-use contents::{BytesView, with_bytes, zero_bytes};
 use device_model::SectorDevice;
 use object_maps::{new_buffer, payload_of};
 use space::FreeSet;
 use std::alloc::Global;
 use tree_blocks::{
-    BlockPlace, Entry, ObjectEntry, no_strips, pointer_in, read_entry, read_pointers,
-    record_number, strip_number, strip_of, with_strip,
+    BlockPlace, BytesView, Entry, ObjectEntry, no_strips, pointer_in, read_entry, read_pointers,
+    record_number, strip_number, strip_of, with_bytes, with_strip, zero_bytes,
 };
 
 /// What a walk makes of the damages that it comes to.

@@ -13,8 +13,8 @@ ghost use Rattle.base.specs.formats.Geometry.{block_address};
 ghost use Rattle.base.specs.tree.Damages.{IsFirstDamage};
 ghost use Rattle.base.specs.kept.PlacedTrees.{HoldsTree, ArePlaced};
 ghost use Rattle.device_model.specs.Reading.{OnlyReads};
-ghost use Rattle.contents.specs.ContentsShown.{objects_of};
 ghost use Rattle.tree_blocks.specs.Pointers.{pointers_of};
+ghost use Rattle.tree_blocks.specs.TreeObjects.{objects_of};
 ghost use Rattle.trees.specs.FreeBlocks.{AreUnnamed};
 ghost use Rattle.object_maps.specs.BlockReads.{IsLoadRefusal};
 ghost use Rattle.base.specs.declared.pointer.Pointer.{Pointer};
@@ -26,11 +26,10 @@ use crate::objects::{Loaded, Objects};
 use crate::one_walk::Damages;
 use base::{POINTER_COUNT, Pointer, PoolError, Told};
 use checked_blocks::Frame;
-use contents::BytesView;
 use device_model::SectorDevice;
 use space::FreeSet;
 use std::alloc::Global;
-use tree_blocks::StripsView;
+use tree_blocks::{BytesView, StripsView};
 
 // What a load is made with: memory, and the frame of the blocks that it reads.
 #[derive(Clone, Copy)]
@@ -63,11 +62,11 @@ pub fn load<D: SectorDevice>(
     // The blocks that no pointer of it names are free.
     ensures free { IfOk result (λ l. AreUnnamed frame.now.blocks l.tree l.free) }
 
-    // It has the lengths of objects within their limits, and is the one that the image holds with them.
-    ensures objects { IfOk result (λ l. HasLimitedObjects l.tree (objects_of l.slots.items)) }
+    // Its objects are within their limits, and it is the one that the image holds with them.
+    ensures objects { IfOk result (λ l. HasLimitedObjects l.tree) }
     ensures tree { IsTrue D.keeps_model → IfOk result (λ l.
         HoldsTree (bytes_of (D.disk device.old).now)
-        frame.now (pointers_of l.tree) (objects_of l.slots.items)) }
+        frame.now (pointers_of l.tree) (objects_of l.tree)) }
 
     // And the block that is reported as damaged is the first damage of the walk.
     ensures damage { IsTrue D.keeps_model → IfErr result (λ e.

@@ -11,8 +11,11 @@ ghost use Rattle.base.specs.steps.Explains.{IsLeftBy};
 ghost use Rattle.base.specs.tree.Mount.{MountsTo};
 
 use super::BRIEF;
+use super::named_objects::{ALL_OF_A, OBJECT_A};
 use super::objects::{ALL_OF_7, OBJECT_7};
 use crate::changes::{put_on, remove_on};
+use crate::named_puts::put_named_on;
+use crate::named_removals::remove_named_on;
 use crate::pool_files::{NewPool, create_on};
 use command_arguments::{CreateArguments, PutArguments};
 use device_model::SectorDevice;
@@ -91,6 +94,34 @@ fn a_refused_put_leaves_each_other_object<
         × (finite.get c.objects 8 ≡ finite.get base.objects 8))) ∥₁ }
 {
     put_on(rt, ALL_OF_7, BRIEF, bytes, device, out, errors)
+}
+
+// Whichever run left the device, and whatever came of the put: what an import finds then is of a pool that goes on from
+// what one would have found before.
+fn a_put_by_name_loses_nothing<
+    R: Wait + AllocGlobal,
+    D: SectorDevice + NotesRefusals + Drop,
+    W: Write,
+    E: Write,
+>(rt: &R, bytes: &[u8], device: D, out: &mut W, errors: &mut E) -> (u8, Option<D>)
+    ensures { IfSome result.1 (λ after. IsTrue D.keeps_model → (past : Past)
+        → IsLeft past (D.disk device) → ∥ ((later : Past) × IsLeft later (D.disk after)
+        × ((c : Contents) → IsLeftBy later c → (base : Contents) × IsLeftBy past base)) ∥₁) }
+{
+    put_named_on(rt, ALL_OF_A, BRIEF, bytes, device, out, errors)
+}
+
+fn a_removal_by_name_loses_nothing<
+    R: Wait + AllocGlobal,
+    D: SectorDevice + NotesRefusals + Drop,
+    W: Write,
+    E: Write,
+>(rt: &R, device: D, out: &mut W, errors: &mut E) -> (u8, Option<D>)
+    ensures { IfSome result.1 (λ after. IsTrue D.keeps_model → (past : Past)
+        → IsLeft past (D.disk device) → ∥ ((later : Past) × IsLeft later (D.disk after)
+        × ((c : Contents) → IsLeftBy later c → (base : Contents) × IsLeftBy past base)) ∥₁) }
+{
+    remove_named_on(rt, OBJECT_A, BRIEF, device, out, errors)
 }
 
 // It has its name and no object.

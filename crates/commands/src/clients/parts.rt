@@ -1,6 +1,6 @@
 //! What callers rely on of the parts of a put.
 
-ghost use Rattle.std.specs.Prelude.{◌≡◌, Err, Ok};
+ghost use Rattle.std.specs.Prelude.{◌≡◌, ◌≢◌, Err, Ok, false};
 
 use crate::changes::{
     OWNER, Put, Start, bad_number_of, first_byte, first_refusal, is_target, write_rest,
@@ -61,9 +61,11 @@ fn a_new_object_of_one_byte_needs_four_blocks() {
     prove!(!fits);
 }
 
+// The pool isn't synced after it.
 fn a_transaction_is_counted_with_its_bytes() -> Put
     ensures bytes { result.bytes ≡ 5 }
     ensures transactions { result.transactions ≡ 1 }
+    ensures unsynced { result.is_synced ≡ false }
 {
     let mut put = Put::NOTHING;
     put.add(5);
@@ -80,4 +82,14 @@ fn a_rest_without_bytes_makes_no_step<R: Wait, D: SectorDevice>(
     ensures unchanged { handle.new ≡ handle.old }
 {
     write_rest(rt, handle, ObjectId(7), 0, &[])
+}
+
+// What was committed is not said to be synced.
+fn a_rest_that_is_written_is_not_synced<R: Wait, D: SectorDevice>(
+    rt: &R,
+    handle: &mut Handle<'_, D>,
+) -> (Put, Result<(), PoolError>)
+    ensures { result.0.transactions ≢ 0 → result.0.is_synced ≡ false }
+{
+    write_rest(rt, handle, ObjectId(7), 0, b"12")
 }

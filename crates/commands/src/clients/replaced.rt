@@ -1,6 +1,6 @@
 //! What callers rely on of `create` on a file that may have a pool.
 
-ghost use Rattle.std.specs.Prelude.{ℕ, ◌≡◌, ◌<◌, [], IfOk, IsTrue, Some, codes, slice_get, true};
+ghost use Rattle.std.specs.Prelude.{ℕ, ◌≡◌, ◌<◌, ◌⊎◌, [], IfErr, IfOk, IsTrue, Some, codes, slice_get, true};
 ghost use Rattle.base.specs.disk.Disk.{bytes_of};
 ghost use Rattle.base.specs.formats.Fields.{part};
 ghost use Rattle.base.specs.formats.Geometry.{IsGeometry};
@@ -12,6 +12,7 @@ ghost use Rattle.read_commands.specs.FoundLabels.{HasConfig};
 
 use super::{BRIEF, OPTIONS};
 use crate::replacing::{has_pool, report_pool, run_create_over, run_create_sized};
+use base::PoolError;
 use command_arguments::{CreateArguments, SizedArguments};
 use device_model::SectorDevice;
 use file_devices::HeldFile;
@@ -109,28 +110,36 @@ fn a_file_that_has_a_pool_has_status_3<E: Write>(errors: &mut E) -> u8
 }
 
 // The image mounts contents.
-fn a_whole_pool_is_there<D: SectorDevice>(alloc: Global, device: &mut D) -> bool
+fn a_whole_pool_is_there<D: SectorDevice>(alloc: Global, device: &mut D) -> Result<bool, PoolError>
     requires { IsGeometry (D.size device.old) }
     ensures { IsTrue D.keeps_model → (contents : Contents)
-        → MountsTo (bytes_of (D.disk device.old).now) contents → result ≡ true }
+        → MountsTo (bytes_of (D.disk device.old).now) contents
+        → IfOk result (λ there. there ≡ true) }
 {
     has_pool(alloc, device)
 }
 
 // A block of its tree is damaged.
-fn a_damaged_pool_is_there<D: SectorDevice>(alloc: Global, device: &mut D) -> bool
+fn a_damaged_pool_is_there<D: SectorDevice>(
+    alloc: Global,
+    device: &mut D,
+) -> Result<bool, PoolError>
     requires { IsGeometry (D.size device.old) }
     ensures { IsTrue D.keeps_model → (kind address : ℕ)
-        → IsTreeDamaged (bytes_of (D.disk device.old).now) kind address → result ≡ true }
+        → IsTreeDamaged (bytes_of (D.disk device.old).now) kind address
+        → IfOk result (λ there. there ≡ true) }
 {
     has_pool(alloc, device)
 }
 
 // One label has a config, whatever the rest of the image is.
-fn a_pool_of_which_a_label_is_left_is_there<D: SectorDevice>(alloc: Global, device: &mut D) -> bool
+fn a_pool_of_which_a_label_is_left_is_there<D: SectorDevice>(
+    alloc: Global,
+    device: &mut D,
+) -> Result<bool, PoolError>
     requires { IsGeometry (D.size device.old) }
     ensures { IsTrue D.keeps_model → HasConfig (bytes_of (D.disk device.old).now) 2
-        → result ≡ true }
+        → IfOk result (λ there. there ≡ true) }
 {
     has_pool(alloc, device)
 }
@@ -139,17 +148,30 @@ fn a_pool_of_which_a_label_is_left_is_there<D: SectorDevice>(alloc: Global, devi
 fn a_pool_that_was_lengthened_by_a_sector_is_there<D: SectorDevice>(
     alloc: Global,
     device: &mut D,
-) -> bool
+) -> Result<bool, PoolError>
     requires { D.size device.old ≡ 8389120 }
     ensures { IsTrue D.keeps_model → (c : Config)
         → IsConfigBlock (part (bytes_of (D.disk device.old).now) 16384 4096) 8388608 c
-        → result ≡ true }
+        → IfOk result (λ there. there ≡ true) }
 {
     has_pool(alloc, device)
 }
 
-fn a_search_for_a_pool_writes_nothing<D: SectorDevice>(alloc: Global, device: &mut D) -> bool
+fn a_search_for_a_pool_writes_nothing<D: SectorDevice>(
+    alloc: Global,
+    device: &mut D,
+) -> Result<bool, PoolError>
     ensures { IsTrue D.keeps_model → D.disk device.new ≡ D.disk device.old }
+{
+    has_pool(alloc, device)
+}
+
+// A device that can't be read is not said to have a pool.
+fn a_search_for_a_pool_is_refused_for_memory_or_a_read<D: SectorDevice>(
+    alloc: Global,
+    device: &mut D,
+) -> Result<bool, PoolError>
+    ensures { IfErr result (λ e. (e ≡ PoolError.NoMemory) ⊎ (e ≡ PoolError.Read)) }
 {
     has_pool(alloc, device)
 }

@@ -3,4 +3,4 @@ use Rattle.hash_lanes.proofs.Messages.{lane-splats}
 use Rattle.hash_lanes.proofs.initial_hashes.Goals as goal
 
 pub returns : goal.returns
-returns c = λ i low. lane-splats i low initial_hash_256
+returns c = λ i low. lane-splats 4 i low initial_hash_256

@@ -1,16 +1,20 @@
 //! What callers rest on of the changes of groups: operations are applied to their own group, and groups move up.
 
-ghost use Rattle.std.specs.Prelude.{◌≡◌, ◌∷◌, [], IfOk, None, OnOk, Some};
+ghost use Rattle.std.specs.Prelude.{◌≡◌, ◌∷◌, [], IfOk, None, OnOk, Some, vec_len};
+ghost use Rattle.base.specs.formats.Limits.{pointer_count};
 ghost use Rattle.extents.specs.Patches.{no_patch};
 ghost use Rattle.contents.specs.ContentsShown.{contents_of};
+ghost use Rattle.extents.specs.Synced.{HaveLengthsAfter};
 ghost use Rattle.extents.specs.Tables.{name_of, patches_of};
 ghost use Rattle.unsynced_extents.specs.Unsynced.{changes_at, extents_at, name_at};
 ghost use Rattle.extents.specs.declared.basis.Basis.TheVariants as basis;
 
-use base::{Bytes, ObjectId, Op, PoolName};
-use contents::Contents;
+use base::{Bytes, ObjectId, Op, Pointer, PoolName};
+use contents::SyncedTree;
 use extents::Extents;
 use std::alloc::{AllocError, Global};
+use std::collections::BTreeMap;
+use tree_blocks::ObjectEntry;
 use unsynced_extents::UnsyncedExtents;
 
 // Nothing is changed at first: an object has the length of the one below.
@@ -133,11 +137,19 @@ fn the_synced_name_stays(unsynced: &UnsyncedExtents, synced: &PoolName) -> PoolN
 }
 
 // Once the group is synced, the contents have its name.
-fn a_synced_group_names_the_contents(extents: &Extents, contents: &mut Contents)
-    requires { name_of extents.now ≡ Some (97 ∷ []) }
-    ensures { (contents_of contents.new).name ≡ 97 ∷ [] }
+fn a_synced_group_names_the_contents(
+    extents: &Extents,
+    synced: &mut SyncedTree,
+    root: Pointer,
+    directories: Vec<Pointer>,
+    entries: BTreeMap<ObjectId, ObjectEntry>,
+)
+    requires directories { vec_len directories ≡ pointer_count }
+    requires lengths { HaveLengthsAfter (patches_of extents.now) entries synced.old.tree }
+    requires name { name_of extents.now ≡ Some (97 ∷ []) }
+    ensures { (contents_of synced.new).name ≡ 97 ∷ [] }
 {
-    extents.lay_into(contents);
+    extents.lay_into(synced, root, directories, entries);
 }
 
 // The group after a synced one is the oldest then, with what it made, and the last place is free.

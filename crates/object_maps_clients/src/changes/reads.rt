@@ -1,16 +1,20 @@
 //! What callers rest on of objects with changes laid over them: written bytes, and bytes below as far as they show.
 
-ghost use Rattle.std.specs.Prelude.{ℕ, ◌≡◌, ◌∷◌, [], None, Some, false, get_or, length};
+ghost use Rattle.std.specs.Prelude.{ℕ, ◌≡◌, ◌∷◌, [], None, Some, false, get_or, length, vec_len};
 ghost use Rattle.std.specs.FinMap as finite;
 ghost use Rattle.contents.specs.ContentsShown.{contents_of};
 ghost use Rattle.extents.specs.Patches.{no_patch};
+ghost use Rattle.base.specs.formats.Limits.{pointer_count};
+ghost use Rattle.extents.specs.Synced.{HaveLengthsAfter};
 ghost use Rattle.extents.specs.Tables.{patches_of};
 ghost use Rattle.unsynced_extents.specs.Unsynced.{changes_at};
 ghost use Rattle.extents.specs.declared.basis.Basis.TheVariants as basis;
 
-use base::ObjectId;
-use contents::Contents;
+use base::{ObjectId, Pointer};
+use contents::SyncedTree;
 use extents::Extents;
+use std::collections::BTreeMap;
+use tree_blocks::ObjectEntry;
 use unsynced_extents::UnsyncedExtents;
 
 // Of an object that was cut to its first byte, and made three bytes long again, that byte shows and then zeros.
@@ -25,13 +29,21 @@ fn bytes_after_a_cut_are_laid_over(extents: &Extents, into: &mut [u8])
 }
 
 // Once the group is synced, bytes after its cut don't come back in the contents.
-fn bytes_after_a_cut_do_not_come_back(extents: &Extents, contents: &mut Contents)
+fn bytes_after_a_cut_do_not_come_back(
+    extents: &Extents,
+    synced: &mut SyncedTree,
+    root: Pointer,
+    directories: Vec<Pointer>,
+    entries: BTreeMap<ObjectId, ObjectEntry>,
+)
+    requires directories { vec_len directories ≡ pointer_count }
+    requires lengths { HaveLengthsAfter (patches_of extents.now) entries synced.old.tree }
     requires basis { (patches_of extents.now 7).basis ≡ basis.Cut 1 3 }
     requires written { (i : ℕ) → (patches_of extents.now 7).written i ≡ None }
-    requires object { finite.get (contents_of contents.old).objects 7 ≡ Some (1 ∷ 2 ∷ 3 ∷ []) }
-    ensures { finite.get (contents_of contents.new).objects 7 ≡ Some (1 ∷ 0 ∷ 0 ∷ []) }
+    requires object { finite.get (contents_of synced.old).objects 7 ≡ Some (1 ∷ 2 ∷ 3 ∷ []) }
+    ensures { finite.get (contents_of synced.new).objects 7 ≡ Some (1 ∷ 0 ∷ 0 ∷ []) }
 {
-    extents.lay_into(contents);
+    extents.lay_into(synced, root, directories, entries);
 }
 
 // An object that the group left alone hides no byte of the one below.

@@ -44,8 +44,8 @@ left_of pool run is =
 -- what is shown of the plan of a running sync is its own: its label stages have the name of its contents, and it has a
 -- step for each of its calls
 module _ (pool : PoolTables) (r : RunningSync) (at : pool.sync ≡ Some r) where
-  plan_is : (plan : SyncPlan) → (pool_shown pool).sync ≡ Some plan → plan_of pool.tree (contents_after_oldest pool) r ≡ plan
-  plan_is plan is = Some-injective (sym (ap (λ (o : Option RunningSync). option_map (plan_of pool.tree (contents_after_oldest pool)) o) at) ∙ is)
+  plan_is : (plan : SyncPlan) → (pool_shown pool).sync ≡ Some plan → plan_of pool.synced.tree (contents_after_oldest pool) r ≡ plan
+  plan_is plan is = Some-injective (sym (ap (λ (o : Option RunningSync). option_map (plan_of pool.synced.tree (contents_after_oldest pool)) o) at) ∙ is)
 
   counted_plan : (plan : SyncPlan) → r.run.done ≡ 0 → (pool_shown pool).sync ≡ Some plan → plan.steps_left ≡ call_count r.run
   counted_plan plan none is = subst (λ (l : SyncPlan). l.steps_left ≡ call_count r.run) (plan_is plan is) (omega (arith, none))
@@ -80,12 +80,12 @@ module _ {Dev : Type 0} {G : Ghosts Dev} where
         let h : Held = held_after (step.StartSync moment) (reply.Syncing group) (told old) (told new) past in
         let starts = leads past past in
         let pool : PoolTables = new.pool in
-        let r = mapped (new_tree_of pool.tree) pool.sync _ starts.running in
+        let r = mapped (new_tree_of pool.synced.tree) pool.sync _ starts.running in
         let was = pool.running r.0 r.1 in
         subst (λ (y : OnDisk). IsSafeStep (step.StartSync moment) (reply.Syncing group) (on_disk old past) y)
         (λ k. record { held = h; disk = sym disk k; run = option_map (λ (q : RunningSync). q.run) (sym r.1 k) })
-        (start_safe (on_disk old past) x moment group h (r.0).run (tree_after r.0 pool.tree) (turn.over keeps x.held) (turn.held keeps x.held)
-        (ap (λ (d : Disk). bytes_of d.now) disk) (ap (λ (o : Option RunningSync). option_map (new_tree_of pool.tree) o) r.1)
+        (start_safe (on_disk old past) x moment group h (r.0).run (tree_after r.0 pool.synced.tree) (turn.over keeps x.held) (turn.held keeps x.held)
+        (ap (λ (d : Disk). bytes_of d.now) disk) (ap (λ (o : Option RunningSync). option_map (new_tree_of pool.synced.tree) o) r.1)
         (was.geometry ∙ sym new.sized ∙ size ∙ sym (sized (device_of old)))
         (λ g plan syncing is. staged_plan pool r.0 r.1 g plan was.geometry was.stages syncing is) (λ plan is. counted_plan pool r.0 r.1 plan (ap (λ (t : NewTree). t.done) r.2) is)
         (λ g syncing. was.uberblock.slot ∙ ap (λ (n : ℕ). slot_of n) (Some-injective (sym (was_syncing pool r.0 r.1) ∙ syncing))) (ap (λ (t : NewTree). t.done) r.2) was.left)

@@ -107,12 +107,12 @@ same_uberblock old new same u writes = record { slot = same.slot ∙ writes.slot
 -- the sync is one that a pool may run
 abbrev pub RunsIn : PoolTables → RunningSync → Type 0
 RunsIn pool r =
-    IsRunning pool.geometry (uberblock_with pool.guid pool.import_number (header_fields r.header) r.group.0 r.moment r.root) (tree_after r pool.tree)
+    IsRunning pool.geometry (uberblock_with pool.guid pool.import_number (header_fields r.header) r.group.0 r.moment r.root) (tree_after r pool.synced.tree)
     (name_at pool.changes 0) r.run
 
 -- after a call with others left, a run of the same blocks and uberblock is one still
 pub runs_on : (pool : PoolTables) (r : RunningSync) (new : SyncRun) → SameSync r.run new → new.done < call_count new → RunsIn pool r
-    → IsRunning pool.geometry (uberblock_with pool.guid pool.import_number (header_fields r.header) r.group.0 r.moment r.root) (tree_after r pool.tree)
+    → IsRunning pool.geometry (uberblock_with pool.guid pool.import_number (header_fields r.header) r.group.0 r.moment r.root) (tree_after r pool.synced.tree)
     (name_at pool.changes 0) new
 runs_on pool r new same left was = record {
   geometry = same.geometry ∙ was.geometry;

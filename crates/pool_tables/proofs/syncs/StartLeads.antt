@@ -1,6 +1,6 @@
 -- The start of a sync, with what is planned of its tree.
 use Rattle.std.proofs.Common.{◌≡◌, ◌<◌, ◌≤◌, ◌+◌, ℕ, true, false, arith, List, length, map, refl, ap, sym, subst, ◌∙◌}
-use Rattle.std.specs.Prelude.{Option, Some, None, Ok, is_some, unwrap_or}
+use Rattle.std.specs.Prelude.{IfSome, Option, Some, None, Ok, is_some, unwrap_or}
 use Rattle.std.specs.BTreeMap.{BTreeMap}
 use Rattle.std.specs.Global.{Vec}
 use Rattle.std.proofs.lemmas.List.{length-map}
@@ -11,6 +11,7 @@ use Rattle.base.specs.formats.Geometry.{IsGeometry, block_count}
 use Rattle.base.specs.history.Contents.{Contents, name_given_by_all}
 use Rattle.base.specs.history.Past.{Past}
 use Rattle.base.specs.history.Plans.{estimate_of, shape_of}
+use Rattle.base.specs.steps.Groups.{Middle}
 use Rattle.base.specs.steps.Tables.{AreTablesExplained}
 use Rattle.base.specs.tree.Places.{Place, has_block}
 use Rattle.base.specs.steps.Shown.{SyncPlan, length_at, listed}
@@ -26,6 +27,7 @@ use Rattle.base.proofs.common.Choices.{none_there}
 use Rattle.tree_blocks.specs.declared.tree.ObjectEntry.{ObjectEntry}
 use Rattle.tree_blocks.specs.declared.tree.Tree.{Tree}
 use Rattle.extents.specs.Patches.{ArePatchesOf}
+use Rattle.extents.specs.Synced.{HaveLengthsAfter}
 use Rattle.unsynced_extents.specs.Unsynced.{changes_at, name_at}
 use Rattle.tree_blocks.specs.Pointers.{pointers_of}
 use Rattle.space.proofs.FreeLists.{length-rising}
@@ -39,6 +41,7 @@ use Rattle.group_plans.specs.Operations.{AreSized, TakesPlace}
 use Rattle.tree_blocks.specs.SyncedTrees.{lengths_after, pointers_after}
 use Rattle.group_plans.proofs.GroupChanges.{lengths_told}
 use Rattle.group_plans.proofs.GroupTrees.{entries_name}
+use Rattle.group_plans.proofs.LaidLengths.{lengths_laid}
 use Rattle.group_plans.proofs.PlannedBlocks.{addresses_are}
 use Rattle.pool_tables.specs.declared.pool.PoolTables.{PoolTables}
 use Rattle.pool_tables.specs.declared.pool.RunningSync.{RunningSync}
@@ -79,6 +82,25 @@ none_counted pool idle =
 pub taken_anew : (pool : PoolTables) (blocks : List PlannedBlock) → is_some pool.groups.line.syncing ≡ false → pool.free.taken + length (map address_of blocks) ≡ length blocks
 taken_anew pool blocks idle = omega (arith, none_counted pool idle, length-map blocks address_of)
 
+-- What is known of a group whose sync may start, whatever the past of the pool.
+module _ (pool : PoolTables) (group : ℕ) (may : MayStart group pool.groups.line) where
+  starts_next : group ≡ pool.groups.line.synced + 1
+  starts_next =
+      subst (λ (o : Option Middle). IfSome o (λ (m : Middle). m.group ≡ unwrap_or pool.groups.line.syncing pool.groups.line.synced + 1)) (quiesced_is pool.groups.line group may.0)
+      pool.accounted.counted.line.middle
+      ∙ ap (λ (o : Option ℕ). unwrap_or o pool.groups.line.synced + 1) (none_there pool.groups.line.syncing may.1)
+
+  -- the oldest changes are those of its operations
+  oldest_changes : ArePatchesOf (pending_ops group pool.log.records) (changes_at pool.changes 0)
+  oldest_changes =
+      let same : pool.groups.line.synced + 1 + 0 ≡ group = omega (arith, starts_next) in
+      subst (λ (g : ℕ). ArePatchesOf (pending_ops g pool.log.records) (changes_at pool.changes 0)) same (pool.unsynced_kept.changed 0 (omega arith))
+
+  -- so the tree of its plan has the lengths that they leave
+  pub planned_lengths : (p : TreePlan) → MakesOldestTree pool group p → HaveLengthsAfter (changes_at pool.changes 0) p.entries pool.synced.tree
+  planned_lengths p makes =
+      lengths_laid group pool.log.records pool.synced.tree (changes_at pool.changes 0) (lengths_after p.entries pool.synced.tree) oldest_changes makes.1.lengths
+
 -- What a past that explains a pool says of a group whose sync may start.
 module _ (past : Past) (pool : PoolTables) (group : ℕ) (may : MayStart group pool.groups.line) (explained : AreTablesExplained (pool_shown pool) past) where
   idle : pool.groups.line.syncing ≡ None
@@ -90,14 +112,7 @@ module _ (past : Past) (pool : PoolTables) (group : ℕ) (may : MayStart group p
   pub group_above : pool.groups.line.synced < group
   group_above = next_above (pool_shown pool) past explained group idle middle pool.log.records refl
 
-  -- the oldest changes are those of its operations
-  oldest_changes : ArePatchesOf (pending_ops group pool.log.records) (changes_at pool.changes 0)
-  oldest_changes =
-      let next : group ≡ pool.groups.line.synced + 1 = next-group (pool_shown pool) past explained group idle middle in
-      let same : pool.groups.line.synced + 1 + 0 ≡ group = omega (arith, next) in
-      subst (λ (g : ℕ). ArePatchesOf (pending_ops g pool.log.records) (changes_at pool.changes 0)) same (pool.unsynced_kept.changed 0 (omega arith))
-
-  -- and the name is the one that they give last
+  -- the name is the one that its operations give last
   pub oldest_name : name_at pool.changes 0 ≡ name_given_by_all (pending_ops group pool.log.records) None
   oldest_name =
       let next : group ≡ pool.groups.line.synced + 1 = next-group (pool_shown pool) past explained group idle middle in
@@ -106,7 +121,7 @@ module _ (past : Past) (pool : PoolTables) (group : ℕ) (may : MayStart group p
 
   -- so its operations lead to what they make of the synced contents
   pub oldest_leads : LeadsTo (pool_shown pool) past group pool.log.records (contents_after_oldest pool)
-  oldest_leads = changes_lead (pool_shown pool) past explained group idle middle pool.log.records refl (changes_at pool.changes 0) (name_at pool.changes 0) oldest_changes oldest_name
+  oldest_leads = changes_lead (pool_shown pool) past explained group idle middle pool.log.records refl (changes_at pool.changes 0) (name_at pool.changes 0) (oldest_changes pool group may) oldest_name
 
   -- no object is too long then
   pub oldest_sized : AreSized (contents_after_oldest pool).objects
@@ -116,14 +131,14 @@ module _ (past : Past) (pool : PoolTables) (group : ℕ) (may : MayStart group p
   pub oldest_ops : ops_of_group group past.entries ≡ pending_ops group pool.log.records
   oldest_ops = ops_are (pool_shown pool) past explained group group_above pool.log.records refl
 
-  pub oldest_takes_place : TakesPlace (pending_ops group pool.log.records) pool.tree.entries.items (synced_of pool) (contents_after_oldest pool)
-  oldest_takes_place = group_takes_place (pool_shown pool) past explained group group_above pool.log.records refl (contents_after_oldest pool) oldest_leads.leads pool.tree.entries.items refl
+  pub oldest_takes_place : TakesPlace (pending_ops group pool.log.records) pool.synced.tree.entries.items (synced_of pool) (contents_after_oldest pool)
+  oldest_takes_place = group_takes_place (pool_shown pool) past explained group group_above pool.log.records refl (contents_after_oldest pool) oldest_leads.leads pool.synced.tree.entries.items refl
 
   -- Whatever the device holds: it takes no more blocks than its operations are estimated at.
   pub group_fits : (p : TreePlan) → MakesOldestTree pool group p → length (map address_of p.blocks.items) ≤ estimate_of (map shape_of (ops_of_group group past.entries))
   group_fits p makes =
-      let fits = taken_fit (pool_shown pool) past explained group pool.log.records oldest_ops (contents_after_oldest pool) pool.tree.entries.items oldest_takes_place oldest_sized makes.0
-      (plan_pointers pool.tree p) (map new_block p.blocks.items) p.freed.items makes.1.places in
+      let fits = taken_fit (pool_shown pool) past explained group pool.log.records oldest_ops (contents_after_oldest pool) pool.synced.tree.entries.items oldest_takes_place oldest_sized makes.0
+      (plan_pointers pool.synced.tree p) (map new_block p.blocks.items) p.freed.items makes.1.places in
       subst (λ (n : ℕ). n ≤ estimate_of (map shape_of (ops_of_group group past.entries))) (length-map p.blocks.items new_block ∙ sym (length-map p.blocks.items address_of)) fits
 
   -- it has a step for each block, and its other steps
@@ -133,15 +148,15 @@ module _ (past : Past) (pool : PoolTables) (group : ℕ) (may : MayStart group p
       ∙ ap (λ (n : ℕ). length (map address_of p.blocks.items) + n) (steps-given (pending_ops group pool.log.records) ∙ ap other_step_count (sym oldest_ops))
 
   -- its lengths are those after the group
-  pub group_lengths : (p : TreePlan) → MakesOldestTree pool group p → AreLengthsOf (contents_after_oldest pool) (length_at (listed (lengths_after p.entries pool.tree)))
+  pub group_lengths : (p : TreePlan) → MakesOldestTree pool group p → AreLengthsOf (contents_after_oldest pool) (length_at (listed (lengths_after p.entries pool.synced.tree)))
   group_lengths p makes =
-      lengths_stay_listed (contents_after_oldest pool) (lengths_after p.entries pool.tree)
-      (lengths_told group pool.log.records pool.tree.entries.items (synced_of pool) (contents_after_oldest pool) oldest_takes_place (lengths_after p.entries pool.tree) makes.1.lengths)
+      lengths_stay_listed (contents_after_oldest pool) (lengths_after p.entries pool.synced.tree)
+      (lengths_told group pool.log.records pool.synced.tree.entries.items (synced_of pool) (contents_after_oldest pool) oldest_takes_place (lengths_after p.entries pool.synced.tree) makes.1.lengths)
 
   -- and its plan is not short of blocks
-  pub never_short : (old : Place → Pointer) → IsShortOfBlocks group pool.log.records pool.tree.entries.items old (contents_after_oldest pool).objects (rising pool.free.free) → ⊥
+  pub never_short : (old : Place → Pointer) → IsShortOfBlocks group pool.log.records pool.synced.tree.entries.items old (contents_after_oldest pool).objects (rising pool.free.free) → ⊥
   never_short old short =
-      enough_blocks (pool_shown pool) past explained group pool.log.records oldest_ops (contents_after_oldest pool) pool.tree.entries.items oldest_takes_place oldest_sized old
+      enough_blocks (pool_shown pool) past explained group pool.log.records oldest_ops (contents_after_oldest pool) pool.synced.tree.entries.items oldest_takes_place oldest_sized old
       idle may.0 (rising pool.free.free) (length-rising pool.free.free) short
 
 -- What a device holds: a plan of the group is what a start of its sync asks, with each past.
@@ -152,7 +167,7 @@ module _ (now : List ℕ) (past : Past) (pool : PoolTables) (group moment : ℕ)
   sized : AreSized (contents_after_oldest pool).objects
   sized = oldest_sized past pool group may x.explained
 
-  takes_place : TakesPlace (pending_ops group pool.log.records) pool.tree.entries.items (synced_of pool) (contents_after_oldest pool)
+  takes_place : TakesPlace (pending_ops group pool.log.records) pool.synced.tree.entries.items (synced_of pool) (contents_after_oldest pool)
   takes_place = oldest_takes_place past pool group may x.explained
 
   -- its stages write the name of the contents that it leaves
@@ -166,20 +181,20 @@ module _ (now : List ℕ) (past : Past) (pool : PoolTables) (group moment : ℕ)
       (subst (λ (n : ℕ). WritesName stages n pool.guid group pool.synced.name (contents_after_oldest pool).name) long (writes pool.synced.name))
 
   -- and the plan makes the tree of these contents
-  pub group_planned : IsPlannedSync (frame_at (pool_shown pool) group) (pointers_of pool.tree) (plan_pointers pool.tree p) (map new_block p.blocks.items) x.kept.stored.synced.objects (contents_after_oldest pool).objects plan
+  pub group_planned : IsPlannedSync (frame_at (pool_shown pool) group) (pointers_of pool.synced.tree) (plan_pointers pool.synced.tree p) (map new_block p.blocks.items) x.kept.stored.synced.objects (contents_after_oldest pool).objects plan
   group_planned =
       let places = objects.made.places in
-      planned_sync now (pool_shown pool) past (pointers_of pool.tree) x.kept.stored x.explained group (group_above past pool group may x.explained) pool.log.records (contents_after_oldest pool) sized pool.tree.entries.items takes_place
-      (entries_name pool.tree (synced_of pool).objects takes_place.sizes)
-      (plan_pointers pool.tree p) (map new_block p.blocks.items) plan objects.held (addresses_are p.blocks.items) objects.made.whole places.freed places.used refl
+      planned_sync now (pool_shown pool) past (pointers_of pool.synced.tree) x.kept.stored x.explained group (group_above past pool group may x.explained) pool.log.records (contents_after_oldest pool) sized pool.synced.tree.entries.items takes_place
+      (entries_name pool.synced.tree (synced_of pool).objects takes_place.sizes)
+      (plan_pointers pool.synced.tree p) (map new_block p.blocks.items) plan objects.held (addresses_are p.blocks.items) objects.made.whole places.freed places.used refl
 
   -- what it takes is what its tree has at the places that it writes, in order
-  pub group_takes : map (λ (place : Place). (plan_pointers pool.tree p place).address) (written_places (ops_of_group group past.entries) (synced_of pool) (has_block now (pool_shown pool).root)) ≡ plan.taken
+  pub group_takes : map (λ (place : Place). (plan_pointers pool.synced.tree p place).address) (written_places (ops_of_group group past.entries) (synced_of pool) (has_block now (pool_shown pool).root)) ≡ plan.taken
   group_takes =
-      takes_in_order now (pool_shown pool) past (pointers_of pool.tree) x.kept.stored x.explained group pool.log.records (oldest_ops past pool group may x.explained) (contents_after_oldest pool) pool.tree.entries.items takes_place sized
-      (plan_pointers pool.tree p) (map new_block p.blocks.items) p.freed.items plan objects.made.places (addresses_are p.blocks.items)
+      takes_in_order now (pool_shown pool) past (pointers_of pool.synced.tree) x.kept.stored x.explained group pool.log.records (oldest_ops past pool group may x.explained) (contents_after_oldest pool) pool.synced.tree.entries.items takes_place sized
+      (plan_pointers pool.synced.tree p) (map new_block p.blocks.items) p.freed.items plan objects.made.places (addresses_are p.blocks.items)
 
   pub group_takes_each : TakesForEach now (record { shown = pool_shown pool; past = past }) group plan
   group_takes_each =
-      takes_for_each now (pool_shown pool) past (pointers_of pool.tree) x.kept.stored x.explained group pool.log.records (oldest_ops past pool group may x.explained) (contents_after_oldest pool) pool.tree.entries.items takes_place sized
-      (plan_pointers pool.tree p) (map new_block p.blocks.items) p.freed.items plan objects.made.places (addresses_are p.blocks.items)
+      takes_for_each now (pool_shown pool) past (pointers_of pool.synced.tree) x.kept.stored x.explained group pool.log.records (oldest_ops past pool group may x.explained) (contents_after_oldest pool) pool.synced.tree.entries.items takes_place sized
+      (plan_pointers pool.synced.tree p) (map new_block p.blocks.items) p.freed.items plan objects.made.places (addresses_are p.blocks.items)

@@ -77,10 +77,10 @@ module _ (keeps : Type 0) (now : List ℕ) (moment : ℕ) (pool : PoolTables) wh
     -- and told, with this line, these free blocks and this sync
     abbrev told_started : CountedLine → FreeSpace → RunningSync → List ℕ → ShownPool
     told_started line free r bytes = record {
-      shown = record (pool_shown pool) { line = line.line; free = free.free; sync = Some (plan_of pool.tree (contents_after_oldest pool) r) };
+      shown = record (pool_shown pool) { line = line.line; free = free.free; sync = Some (plan_of pool.synced.tree (contents_after_oldest pool) r) };
       now = bytes;
-      pointers = pointers_of pool.tree;
-      running = Some (new_tree_of pool.tree r);
+      pointers = pointers_of pool.synced.tree;
+      running = Some (new_tree_of pool.synced.tree r);
     }
 
     module _ (stands : pool.suspended ≡ false) (may : MayStart g.0 pool.groups.line) (lowest : TakesLowest pool.free.free planned) (makes : MakesOldestTree pool g.0 planned) where
@@ -93,14 +93,14 @@ module _ (keeps : Type 0) (now : List ℕ) (moment : ℕ) (pool : PoolTables) wh
       -- its blocks are in the order of the places that it writes; it moves no byte, and its tree is that of the plan
       pub plan_starts_sync : (keeps → HoldsSyncedTree pool now → HoldsOldestObjects pool g.0 planned)
           → (line : CountedLine) (free : FreeSpace) (r : RunningSync) (told : List PlannedBlock) → line ≡ after_start g.0 pool.groups → free ≡ after_sync_takes (map address_of told) pool.free → told ≡ r.run.blocks.items
-          → BeginsPlan planned r → plan_of pool.tree (contents_after_oldest pool) r ≡ plan → IsUberblock r.run.uberblock (uberblock_of (pool_shown pool) g.0 plan)
+          → BeginsPlan planned r → plan_of pool.synced.tree (contents_after_oldest pool) r ≡ plan → IsUberblock r.run.uberblock (uberblock_of (pool_shown pool) g.0 plan)
           → ((before : List ℕ) → WritesName (config_of r.run.stages) pool.geometry pool.guid g.0 before (unwrap_or (name_at pool.changes 0) before))
           → IsSyncStart keeps now moment (Ok g) (pool_told pool) (told_started line free r)
       plan_starts_sync objects line free r told line_is free_is told_is begins plan_is slot_is writes =
           let blocks = blocks_kept r planned.blocks told begins.blocks told_is in
           let taken : free ≡ after_sync_takes (map address_of planned.blocks.items) pool.free = free_is ∙ ap (λ (l : List PlannedBlock). after_sync_takes (map address_of l) pool.free) blocks in
           let is : (told_started line free r []).shown ≡ shown_started = λ k. record (pool_shown pool) { line = (line_is k).line; free = (taken k).free; sync = Some (plan_is k) } in
-          let made = nothing_made pool.tree r planned.root planned.directories planned.entries planned.blocks begins.root begins.directories begins.entries begins.blocks begins.done in
+          let made = nothing_made pool.synced.tree r planned.root planned.directories planned.entries planned.blocks begins.root begins.directories begins.entries begins.blocks begins.done in
           let running = ap (λ (t : NewTree). Some t) made in
           let shows = ap (λ (q : SyncPlan). Some q) plan_is in
           record {
@@ -118,7 +118,7 @@ module _ (keeps : Type 0) (now : List ℕ) (moment : ℕ) (pool : PoolTables) wh
             leads = λ k past later. record {
               same = refl;
               pointers = refl;
-              tree = plan_pointers pool.tree planned;
+              tree = plan_pointers pool.synced.tree planned;
               bs = map new_block planned.blocks.items;
               slot = r.run.uberblock;
               stages = config_of r.run.stages;

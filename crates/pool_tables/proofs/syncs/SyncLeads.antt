@@ -143,34 +143,34 @@ synced_leads group o n before after was syncing none same all advances =
     (after.pointers, same, λ past later. (after, record { before = before; running = was; group = group.0; syncing = syncing; advances = advances }, all, refl, none))
 
 -- what the running sync of a pool makes
-pub was_running : (pool : PoolTables) (r : RunningSync) → pool.sync ≡ Some r → option_map (new_tree_of pool.tree) pool.sync ≡ Some (made_by (pointers_after r.root r.directories.items r.entries pool.tree) r.run)
-was_running pool r is = ap (λ (o : Option RunningSync). option_map (new_tree_of pool.tree) o) is
+pub was_running : (pool : PoolTables) (r : RunningSync) → pool.sync ≡ Some r → option_map (new_tree_of pool.synced.tree) pool.sync ≡ Some (made_by (pointers_after r.root r.directories.items r.entries pool.synced.tree) r.run)
+was_running pool r is = ap (λ (o : Option RunningSync). option_map (new_tree_of pool.synced.tree) o) is
 
 -- and its group
 pub was_syncing : (pool : PoolTables) (r : RunningSync) → pool.sync ≡ Some r → pool.groups.line.syncing ≡ Some r.group.0
 was_syncing pool r is = sym pool.sync_line ∙ ap (λ (o : Option RunningSync). option_map (λ (r : RunningSync). r.group.0) o) is
 
 -- and its plan
-pub was_planned : (pool : PoolTables) (r : RunningSync) → pool.sync ≡ Some r → (pool_shown pool).sync ≡ Some (plan_of pool.tree (contents_after_oldest pool) r)
-was_planned pool r is = ap (λ (o : Option RunningSync). option_map (plan_of pool.tree (contents_after_oldest pool)) o) is
+pub was_planned : (pool : PoolTables) (r : RunningSync) → pool.sync ≡ Some r → (pool_shown pool).sync ≡ Some (plan_of pool.synced.tree (contents_after_oldest pool) r)
+was_planned pool r is = ap (λ (o : Option RunningSync). option_map (plan_of pool.synced.tree (contents_after_oldest pool)) o) is
 
 -- of which the next state of its run leaves so many calls
 pub planned_still : (pool : PoolTables) (r : RunningSync) (next : SyncRun) → SameSync r.run next → (left : ℕ) → call_count next - next.done ≡ left
-    → (let plan : SyncPlan = plan_of pool.tree (contents_after_oldest pool) r in
+    → (let plan : SyncPlan = plan_of pool.synced.tree (contents_after_oldest pool) r in
     (let now : SyncPlan = record plan { steps_left = call_count next - next.done; taken = map (λ (b : PlannedBlock). block_address b.index) next.blocks.items } in now) ≡ record plan { steps_left = left })
-planned_still pool r next same left is = λ k. record (plan_of pool.tree (contents_after_oldest pool) r) { steps_left = is k; taken = same_taken r.run next same k }
+planned_still pool r next same left is = λ k. record (plan_of pool.synced.tree (contents_after_oldest pool) r) { steps_left = is k; taken = same_taken r.run next same k }
 
 -- after a refused call it is as before
 pub failed_running : (pool : PoolTables) (r : RunningSync) (next : SyncRun) → pool.sync ≡ Some r → SameSync r.run next → next.done ≡ r.run.done
-    → Some (made_by (pointers_after r.root r.directories.items r.entries pool.tree) next) ≡ option_map (new_tree_of pool.tree) pool.sync
+    → Some (made_by (pointers_after r.root r.directories.items r.entries pool.synced.tree) next) ≡ option_map (new_tree_of pool.synced.tree) pool.sync
 failed_running pool r next is same done =
-    ap (λ (t : NewTree). Some t) (made_same r.run next same (pointers_after r.root r.directories.items r.entries pool.tree) done) ∙ sym (was_running pool r is)
+    ap (λ (t : NewTree). Some t) (made_same r.run next same (pointers_after r.root r.directories.items r.entries pool.synced.tree) done) ∙ sym (was_running pool r is)
 
 -- The running sync of a pool made its next call.
 module _ (pool : PoolTables) (r : RunningSync) (next : SyncRun) (before after : Disk) (is : pool.sync ≡ Some r) (same : SameSync r.run next) (sized : length (bytes_of before.now) ≡ pool.geometry)
     (size : r.run.geometry ≡ pool.geometry) (call : DeviceCall) (at : IsNextCall r.run call) where
   abbrev pointers : Place → Pointer
-  pointers = pointers_after r.root r.directories.items r.entries pool.tree
+  pointers = pointers_after r.root r.directories.items r.entries pool.synced.tree
 
   abbrev IsMade : Type 0
   IsMade = MakesCall r.run call before (Ok tt) after
@@ -179,8 +179,8 @@ module _ (pool : PoolTables) (r : RunningSync) (next : SyncRun) (before after : 
   advanced done makes =
       call_advances r.run next same pointers (subst AreEvenFirst (sym (pool.running r is).stages) (stages_even pool.guid r.group.0 pool.geometry (name_at pool.changes 0))) done before after (sized ∙ sym size) r.group.0 (pool.running r is).uberblock.slot call at makes
 
-  pub synced_told : (new : PoolTables) → next.done ≡ r.run.done + 1 → next.done ≡ call_count next → IsMade → new.sync ≡ None → SamePlaces (pointers_of new.tree) pointers
+  pub synced_told : (new : PoolTables) → next.done ≡ r.run.done + 1 → next.done ≡ call_count next → IsMade → new.sync ≡ None → SamePlaces (pointers_of new.synced.tree) pointers
       → Leads (reply.Synced r.group) (pool_told pool (bytes_of before.now)) (pool_told new (bytes_of after.now))
   synced_told new done last makes none places =
       synced_leads r.group (pool_told pool (bytes_of before.now)) (pool_told new (bytes_of after.now)) (made_by pointers r.run) (made_by pointers next) (was_running pool r is) (was_syncing pool r is)
-      (ap (λ (o : Option RunningSync). option_map (new_tree_of new.tree) o) none) places (made_all r.run next same pointers last) (advanced done makes)
+      (ap (λ (o : Option RunningSync). option_map (new_tree_of new.synced.tree) o) none) places (made_all r.run next same pointers last) (advanced done makes)

@@ -4,14 +4,17 @@
 //! tree's directories. Then it is written out call by call. After the last call the pool lays its changes into the
 //! synced objects, and what the sync replaced is free.
 
-ghost use Rattle.std.specs.Prelude.{◌≡◌, ℕ, List, IfErr, IfOk, IsTrue, OnErr, false, is_some, unwrap_or};
-ghost use Rattle.base.specs.formats.Geometry.{block_count};
+ghost use Rattle.std.specs.Prelude.{◌≡◌, ◌<◌, ℕ, All, List, IfErr, IfOk, IsTrue, OnErr, false, is_some, true, unwrap_or, vec_len};
+ghost use Rattle.base.specs.formats.Geometry.{block_count, is_block_of};
+ghost use Rattle.base.specs.formats.Limits.{object_count, pointer_count};
 ghost use Rattle.base.specs.kept.LabelConfigs.{WritesName};
-ghost use Rattle.base.specs.kept.PlacedTrees.{ArePlaced};
-ghost use Rattle.extents.specs.Synced.{patched_contents};
+ghost use Rattle.extents.specs.Synced.{HaveLengthsAfter, patched_contents};
 ghost use Rattle.unsynced_extents.specs.Unsynced.{MovesUp, changes_at, name_at};
 ghost use Rattle.contents.specs.ContentsShown.{contents_of};
 ghost use Rattle.tree_blocks.specs.Pointers.{pointers_of};
+ghost use Rattle.tree_blocks.specs.SyncedTrees.{lengths_after, pointers_after};
+ghost use Rattle.tree_blocks.specs.TreeObjects.{lengths_of};
+ghost use Rattle.pool_tables.specs.Told.{SamePlaces};
 ghost use Rattle.pool_tables.specs.Numbers.{IsGroup};
 ghost use Rattle.intent_log.specs.Kept.{header_fields, log_shown};
 ghost use Rattle.intent_log.specs.RunLogs.{KeepsHeader};
@@ -19,13 +22,15 @@ ghost use Rattle.sync.specs.GroupLabels.{WritesUberblock, stages_for};
 
 use crate::blocks::{end_charges, forget_all, give_log, keep_blocks, take_all};
 use crate::pool::{PoolTables, Progress, RunningSync};
-use base::{Group, PoolError, WRITTEN_VERSION};
-use contents::Contents;
+use base::{Group, ObjectId, Pointer, PoolError, WRITTEN_VERSION};
+use contents::SyncedTree;
 use group_plans::{GroupSource, plan_group};
 use labels::Stage;
 use mounted::give_all;
 use object_maps::BlockReader;
+use std::collections::BTreeMap;
 use sync::{SyncCall, SyncRun};
+use tree_blocks::ObjectEntry;
 use tree_plans::TreePlan;
 use uberblocks::Uberblock;
 use unsynced_extents::UnsyncedExtents;
@@ -39,10 +44,10 @@ impl PoolTables {
     ghost use Rattle.group_plans.specs.GroupPlans.{FitsIn, IsHeldRefusal, IsPlanRefusal, TakesLowest};
     ghost use Rattle.pool_tables.specs.Forgotten.{ForgetsFreed};
     ghost use Rattle.pool_tables.specs.GroupPlans.{BeginsPlan, HoldsOldestObjects, HoldsSyncedTree, IsPoolShort, MakesOldestTree, begun_plan, uberblock_for};
-    ghost use Rattle.pool_tables.specs.Told.{Leads, SamePlaces, config_of, sync_step_reply, pool_told, tree_after};
+    ghost use Rattle.pool_tables.specs.Told.{Leads, config_of, sync_step_reply, pool_told};
     ghost use Rattle.pool_tables.specs.SyncPhases.{StepsPhases, run_in};
     ghost use Rattle.pool_tables.specs.Lines.{ChecksStart};
-    ghost use Rattle.pool_tables.specs.Shows.{contents_after_oldest, geometry_of, plan_of, pool_shown, shown_after_tree};
+    ghost use Rattle.pool_tables.specs.Shows.{contents_after_oldest, geometry_of, plan_of, pool_shown, shown_given};
     ghost use Rattle.pool_tables.specs.KeptTrees.{KeepsTree};
     ghost use Rattle.pool_tables.specs.StepAnswers.{ClosesGroup, MarksQuiesced, StepsSync};
     ghost use Rattle.pool_tables.specs.SyncStarts.{IsSyncStart};
@@ -130,7 +135,7 @@ impl PoolTables {
             geometry: self.geometry,
             guid: self.guid,
             group,
-            tree: &self.tree,
+            tree: &self.synced.tree,
             free: &self.free,
         };
         plan_group(
@@ -139,7 +144,6 @@ impl PoolTables {
             &source,
             self.log.records(),
             self.changes.oldest(),
-            &self.synced,
         )
     }
 
@@ -152,7 +156,7 @@ impl PoolTables {
         ensures group { result.group ≡ group }
         ensures moment { result.moment ≡ moment }
         ensures begins { BeginsPlan planned result }
-        ensures plan { plan_of self.now.tree (contents_after_oldest self.now) result
+        ensures plan { plan_of self.now.synced.tree (contents_after_oldest self.now) result
             ≡ begun_plan self.now group.0 moment planned }
         ensures header { KeepsHeader group.0 (header_fields result.header)
             (log_shown self.now.log) }
@@ -222,16 +226,31 @@ impl PoolTables {
                 let Some(synced) = self.sync.take() else {
                     unreachable!();
                 };
-                let group = synced.group;
+                let RunningSync {
+                    group,
+                    moment: _,
+                    header,
+                    run,
+                    entries,
+                    directories,
+                    root,
+                    freed,
+                } = synced;
                 let Ok(_) = self.groups.finish_sync() else {
                     unreachable!();
                 };
                 end_charges(&mut self.dirty, &mut self.free, group);
                 self.log.drop_synced(group);
-                lay_oldest(&mut self.changes, &mut self.synced);
-                give_log(&mut self.free, self.geometry, &mut self.log, synced.header);
-                forget_all(device, &synced.freed);
-                let run = self.finish_tree(synced);
+                lay_oldest(
+                    &mut self.changes,
+                    &mut self.synced,
+                    root,
+                    directories,
+                    entries,
+                );
+                give_log(&mut self.free, self.geometry, &mut self.log, header);
+                forget_all(device, &freed);
+                self.give_freed(&freed);
                 keep_blocks(device, run);
                 Ok(Progress::Synced(group))
             }
@@ -243,43 +262,43 @@ impl PoolTables {
         }
     }
 
-    // The synced group's tree is the pool's, and what it replaced is free (rule 6). The run of its sync comes
-    // back.
-    fn finish_tree(&mut self, running: RunningSync) -> SyncRun
+    // What the tree of the synced group replaced is free (rule 6).
+    fn give_freed(&mut self, freed: &[u64])
         requires none { is_some self.old.sync ≡ false }
-        requires geometry { running.run.geometry ≡ self.old.geometry }
-        requires placed { ∥ ArePlaced (block_count self.old.geometry)
-            (tree_after running self.old.tree) ∥₁ }
+        requires placed { All (λ address. is_block_of (block_count self.old.geometry) address ≡ true)
+            freed.now }
         ensures geometry { self.new.geometry ≡ self.old.geometry }
         ensures sync { self.new.sync ≡ self.old.sync }
-        ensures shown { pool_shown self.new
-            ≡ shown_after_tree running self.old.tree (pool_shown self.old) }
-        ensures pointers { SamePlaces (pointers_of self.new.tree)
-            (tree_after running self.old.tree) }
+        ensures synced { self.new.synced ≡ self.old.synced }
+        ensures shown { pool_shown self.new ≡ shown_given freed.now (pool_shown self.old) }
     {
-        let RunningSync {
-            group: _,
-            moment: _,
-            header: _,
-            run,
-            entries,
-            directories,
-            root,
-            freed,
-        } = running;
-        self.tree.lay(root, directories, entries);
-        give_all(&mut self.free, self.geometry, &freed);
-        run
+        give_all(&mut self.free, self.geometry, freed);
     }
 }
 
-// The oldest group is synced: the synced objects are those that it left, and the groups after it move up.
-fn lay_oldest(changes: &mut UnsyncedExtents, synced: &mut Contents)
+// The oldest group is synced: the synced tree is the one that its sync wrote, with the objects and the name that the
+// group left, and the groups after it move up.
+fn lay_oldest(
+    changes: &mut UnsyncedExtents,
+    synced: &mut SyncedTree,
+    root: Pointer,
+    directories: Vec<Pointer>,
+    entries: BTreeMap<ObjectId, ObjectEntry>,
+)
+    requires directories { vec_len directories ≡ pointer_count }
+    requires lengths { HaveLengthsAfter (changes_at changes.old 0) entries synced.old.tree }
     ensures contents { contents_of synced.new
         ≡ patched_contents (changes_at changes.old 0) (name_at changes.old 0)
         (contents_of synced.old) }
     ensures changes { MovesUp changes.old changes.new }
+    ensures pointers { SamePlaces (pointers_of synced.new.tree)
+        (pointers_after root directories.items entries synced.old.tree) }
+    ensures lengths { (n : ℕ) → n < object_count
+        → lengths_of synced.new.tree n ≡ lengths_after entries synced.old.tree n }
+    ensures root { synced.new.tree.root ≡ root }
 {
-    changes.oldest().lay_into(synced);
+    changes
+        .oldest()
+        .lay_into(synced, root, directories, entries);
     changes.drop_oldest();
 }

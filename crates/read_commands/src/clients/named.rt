@@ -1,6 +1,6 @@
 //! What callers rely on of the commands that read objects by name.
 
-ghost use Rattle.std.specs.Prelude.{ℕ, ◌≡◌, ◌≢◌, [], ◌∷◌, IfOk, IsNone, IsOk, IsTrue, None, Ok, Some, codes, length};
+ghost use Rattle.std.specs.Prelude.{ℕ, ◌≡◌, [], ◌∷◌, IfOk, IsNone, IsOk, IsTrue, None, Ok, Some, codes, length};
 ghost use Rattle.std.specs.FinMap as finite;
 ghost use Rattle.base.specs.disk.Disk.{bytes_of};
 ghost use Rattle.base.specs.history.Contents.{Contents};
@@ -59,17 +59,15 @@ fn a_get_writes_the_bytes_of_the_object_with_the_name<
     status
 }
 
-// If no object has the name `a`, the status is not 0.
-fn a_get_finds_its_name<D: SectorDevice + NotesRefusals + Drop, W: Write, E: Write>(
-    alloc: Global,
-    scope: Scope,
-    device: D,
-    out: &mut W,
-    errors: &mut E,
-) -> u8
+// If no object has the name `a`, a get is neither done nor fails to write.
+fn a_name_that_no_object_has_is_got_with_status_1<
+    D: SectorDevice + NotesRefusals + Drop,
+    W: Write,
+    E: Write,
+>(alloc: Global, scope: Scope, device: D, out: &mut W, errors: &mut E) -> u8
     ensures { IsTrue D.keeps_model → (contents : Contents)
         → MountsTo (bytes_of (D.disk device).now) contents
-        → ((n : ℕ) → HasName contents (codes "a") n → ⊥) → result ≢ 0 }
+        → ((n : ℕ) → HasName contents (codes "a") n → ⊥) → result ≡ 1 }
 {
     let (status, _) = run_get_named(alloc, TWO_BYTES_OF_A, scope, BRIEF, Ok(device), out, errors);
     status
@@ -155,6 +153,20 @@ fn a_list_without_names_has_numbers_and_lengths<
         → W.contents out.old ≡ Some [] → W.contents out.new ≡ Some (codes "7 2\n") }
 {
     let opened = Ok(device);
+    let (status, _) = run_list_named(alloc, "tank.pool", scope, BRIEF, opened, out, errors);
+    status
+}
+
+// If the image mounts nothing, a list of the whole pool is neither done nor fails to write.
+fn a_pool_that_is_not_mounted_is_listed_with_status_1<
+    D: SectorDevice + NotesRefusals + Drop,
+    W: Write,
+    E: Write,
+>(alloc: Global, device: D, out: &mut W, errors: &mut E) -> u8
+    ensures { IsTrue D.keeps_model → ((contents : Contents)
+        → MountsTo (bytes_of (D.disk device).now) contents → ⊥) → result ≡ 1 }
+{
+    let (scope, opened) = (Scope::Whole, Ok(device));
     let (status, _) = run_list_named(alloc, "tank.pool", scope, BRIEF, opened, out, errors);
     status
 }

@@ -10,7 +10,8 @@ ghost use Rattle.object_views.specs.ObjectViews.{IsObjectViewOf, is_own, object_
 ghost use Rattle.object_views.specs.declared.view.ObjectView.{ObjectView};
 
 use super::BRIEF;
-use crate::failure::NotesRefusals;
+use crate::bad_number::BadNumber;
+use crate::failure::{Failure, NotesRefusals};
 use crate::label_lines::run_labels;
 use crate::lists::{list_objects, list_opened};
 use crate::ranges::read_object;
@@ -150,4 +151,18 @@ fn a_look_at_the_labels_writes_nothing_to_the_device<
     let mut opened = Ok(device);
     run_labels(alloc, "tank.pool", BRIEF, &mut opened, out, errors);
     opened
+}
+
+// The first number that no object has is the cause of its refusal.
+fn an_object_of_number_5292_is_the_cause_of_a_bad_range() -> Failure
+    ensures { result ≡ Failure.OutOfRange (BadNumber.Object 5292) }
+{
+    Failure::Refused(PoolError::BadRange).for_number(BadNumber::of_object(5_292))
+}
+
+// The dirty limit comes before the cache, of which no block is too few.
+fn a_cache_without_a_block_is_outside_its_limits() -> Option<BadNumber>
+    ensures { result ≡ Some (BadNumber.CacheBlocks 0) }
+{
+    BadNumber::of_limits(4_096, 0)
 }

@@ -11,11 +11,11 @@ use crate::dispatch::run_opened;
 use crate::failure::NotesRefusals;
 use crate::json_labels::run_json_labels;
 use crate::json_reports::{run_json_list, run_json_show};
-use crate::label_lines::Labels;
+use crate::label_lines::{Labels, run_labels};
 use crate::long_list::run_long_list;
 use crate::pool_space::{Space, run_space, write_space};
 use base::Group;
-use command_arguments::{ReadCommand, Scope, SpaceArguments, SpaceUnit};
+use command_arguments::{ListArguments, ListForm, ReadCommand, Scope, SpaceArguments, SpaceUnit};
 use device_model::SectorDevice;
 use file_devices::FileRefusal;
 use std::alloc::Global;
@@ -131,6 +131,18 @@ fn a_look_at_the_labels_begins_with_label_0<
     run_json_labels(alloc, "tank.pool", BRIEF, &mut Ok(device), out, errors)
 }
 
+// So it is in lines.
+fn the_lines_of_the_labels_begin_with_label_0<
+    D: SectorDevice + NotesRefusals + Drop,
+    W: Write,
+    E: Write,
+>(alloc: Global, device: D, out: &mut W, errors: &mut E) -> u8
+    ensures { result ≡ 0 → W.contents out.old ≡ Some [] → (rest : List ℕ)
+        × (W.contents out.new ≡ Some (codes "label 0 config " ++ rest)) }
+{
+    run_labels(alloc, "tank.pool", BRIEF, &mut Ok(device), out, errors)
+}
+
 // A file of 512 bytes can hold no label. Nothing is written then.
 fn a_look_at_the_labels_of_a_small_file_prints_nothing<
     D: SectorDevice + NotesRefusals + Drop,
@@ -158,4 +170,30 @@ fn whatever_is_asked_of_a_file_that_is_not_opened_has_status_3<
 {
     let opened: Result<D, FileRefusal> = Err(FileRefusal::InUse);
     run_opened(alloc, command, BRIEF, opened, out, errors)
+}
+
+// A long list was asked for, so that is written. The output had no bytes before.
+fn the_list_that_was_asked_for_is_written<
+    D: SectorDevice + NotesRefusals + Drop,
+    W: Write,
+    E: Write,
+>(alloc: Global, scope: Scope, device: D, out: &mut W, errors: &mut E) -> u8
+    ensures { result ≡ 0 → IsTrue D.keeps_model → (contents : Contents)
+        → MountsTo (bytes_of (D.disk device).now) contents
+        → finite.entries contents.objects ≡ (7, 10 ∷ 11 ∷ []) ∷ []
+        → W.contents out.old ≡ Some [] → W.contents out.new ≡ Some (codes "7 2 2\n") }
+{
+    let list = ListArguments {
+        file: "tank.pool",
+        form: ListForm::Long,
+        scope,
+    };
+    run_opened(
+        alloc,
+        ReadCommand::List(list),
+        BRIEF,
+        Ok(device),
+        out,
+        errors,
+    )
 }

@@ -1,4 +1,4 @@
-use Rattle.std.proofs.Common.{refl, subst}
+use Rattle.std.proofs.Common.{subst}
 use Rattle.base.specs.declared.names.ObjectId.{ObjectId}
 use Rattle.commands.specs.Committed.{PutsOrFails}
 use Rattle.commands.specs.LeftContents.{HasPut, KeepsOthers, LeavesDevice}

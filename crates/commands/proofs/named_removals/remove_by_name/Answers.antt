@@ -1,5 +1,5 @@
 use Rattle.std.proofs.Common.{ℕ, List, None, Ok, Err, Some, ap, inl, inr, refl, subst, ◌∙◌}
-use Rattle.commands.specs.NamedPuts.{IsUnknown}
+use Rattle.read_commands.specs.NamedObjects.{IsUnknown}
 use Rattle.commands.specs.declared.named_steps.NameRefusal.TheVariants.{Engine, Name}
 use Rattle.read_commands.specs.declared.name_causes.NameCause.TheVariants.{NoTable, Unknown}
 use Rattle.object_names.specs.NameTables.{IsNamed}

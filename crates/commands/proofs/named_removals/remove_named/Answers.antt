@@ -1,15 +1,20 @@
-use Rattle.std.proofs.Common.{Err, Ok, inr, subst, sym}
-use Rattle.std.specs.Prelude.{IfOk}
+use Rattle.std.proofs.Common.{inl, inr}
 use Rattle.pool_threads.specs.Handles.{shared_of}
-use Rattle.commands.specs.NamedCommands.{NamedRemovalEnds}
+use Rattle.running_pools.proofs.LeftDevices.{closed_still}
+use Rattle.commands.specs.Committed.{default_dirty_max}
 use Rattle.commands.proofs.named_removals.remove_named.Goals as goal
 
-pub returns-in-Ok-remove_by_name-clause-removed : goal.returns-in-Ok-remove_by_name-clause-removed
-returns-in-Ok-remove_by_name-clause-removed g c =
-    subst (λ o. IfOk o (λ device. NamedRemovalEnds g.D.SectorDevice device c.args.arguments.moment c.args.arguments.name.now (Ok c.in-Ok-remove_by_name.object))) (sym c.in-Ok.is)
-    (record { pool = shared_of c.in-Ok-open_pool.pool; opens = c.in-Ok-open_pool.ensures.opened; does = c.in-Ok-remove_by_name.ensures })
+pub returns-then-not-is_object_name-clause-still_held : goal.returns-then-not-is_object_name-clause-still_held
+returns-then-not-is_object_name-clause-still_held g c = λ keeps. inl (λ past was. was)
 
-pub returns-in-Err-remove_by_name-clause-removed : goal.returns-in-Err-remove_by_name-clause-removed
-returns-in-Err-remove_by_name-clause-removed g c =
-    subst (λ o. IfOk o (λ device. NamedRemovalEnds g.D.SectorDevice device c.args.arguments.moment c.args.arguments.name.now (Err c.failure_of.result))) (sym c.in-Ok.is)
-    (inr (inr (c.in-Err-remove_by_name.refusal, record { pool = shared_of c.in-Ok-open_pool.pool; opens = c.in-Ok-open_pool.ensures.opened; does = c.in-Err-remove_by_name.ensures }, c.failure_of.ensures)))
+pub returns-in-Ok-end-clause-removed : goal.returns-in-Ok-end-clause-removed
+returns-in-Ok-end-clause-removed g c = record { pool = shared_of c.in-Ok.pool; opens = c.in-Ok.ensures.opened; does = c.in-Ok-end.ensures }
+
+pub returns-in-Ok-end-clause-still_held : goal.returns-in-Ok-end-clause-still_held
+returns-in-Ok-end-clause-still_held g c = closed_still (shared_of c.in-Ok.pool) c.args.device default_dirty_max c.in-Ok.ensures.opened c.close-device.result c.close-device.ensures
+
+pub returns-in-Err-end-clause-removed : goal.returns-in-Err-end-clause-removed
+returns-in-Err-end-clause-removed g c = inr (inr (c.in-Err-end.refusal, record { pool = shared_of c.in-Ok.pool; opens = c.in-Ok.ensures.opened; does = c.in-Err-end.ensures }, c.failure_of.ensures))
+
+pub returns-in-Err-end-clause-still_held : goal.returns-in-Err-end-clause-still_held
+returns-in-Err-end-clause-still_held g c = closed_still (shared_of c.in-Ok.pool) c.args.device default_dirty_max c.in-Ok.ensures.opened c.close-device.result c.close-device.ensures

@@ -5,7 +5,7 @@ use Rattle.copies.specs.Copies.{AreChecked, IsLostFrom, WritesUnlessZeros, viewe
 use Rattle.copies.specs.Lines.{missing_line}
 use Rattle.copies.specs.declared.missing.Missing.TheVariants as missing
 use Rattle.copies.proofs.Looks.{only_read, read_on}
-use Rattle.copies.proofs.Moved.{lost_moved}
+use Rattle.copies.proofs.Moved.{lost_moved, stop_moved}
 use Rattle.copies.proofs.RecordReads.{read_bytes, read_damage}
 use Rattle.copies.proofs.Steps.{lost, same_object, wrote}
 use Rattle.copies.proofs.objects.copy_record.Goals as goal
@@ -55,3 +55,7 @@ returns-in-Ok-pass_over-clause-copied g c =
     passed.allowed c.args.new.now o p
     (subst (λ (n : ObjectId). Appends o p (missing_line (missing.Bytes n (record { low = c.args.low; high = high }) d))) same
     (subst (λ (k : ℕ). Appends o p (missing_line (missing.Bytes c.args.object (record { low = k; high = high }) d))) ranged.begins passed.written))
+
+pub returns-in-Err-pass_over-clause-stopped : goal.returns-in-Err-pass_over-clause-stopped
+returns-in-Err-pass_over-clause-stopped g c =
+    stop_moved g.D.SectorDevice.keeps_model (g.D.SectorDevice.disk c.read_record.new.device) (g.D.SectorDevice.disk c.args.old.now) c.in-Ok.ensures.reads.disk c.args.skips c.in-Err-pass_over.stop c.in-Err-pass_over.ensures.stopped

@@ -1,9 +1,10 @@
 use Rattle.std.proofs.Common.{subst, sym, ◌∙◌}
+use Rattle.std.proofs.lemmas.Result.{err_from_is_err_and}
 use Rattle.base.specs.disk.Disk.{Disk, bytes_of}
 use Rattle.object_views.specs.ObjectViews.{IsObjectViewOf}
 use Rattle.copies.specs.Copies.{IsRecordStep, is_kept, record_lines, record_writes, viewed_object}
 use Rattle.copies.proofs.Looks.{alone_on, read_on}
-use Rattle.copies.proofs.Moved.{records_moved}
+use Rattle.copies.proofs.Moved.{records_moved, stop_moved}
 use Rattle.copies.proofs.Steps.{goes_on}
 use Rattle.copies.proofs.objects.copy_records.Goals as goal
 
@@ -31,3 +32,8 @@ loop-low-preserved g c =
           (records_moved keep (g.D.SectorDevice.disk c.loop-low.old) before inv.reads.disk v c.args.skips c.loop-low.low low whole c.loop-low.new c.copy_record.new.new o p next.copied);
       stays = alone_on c.args.new.now c.loop-low.new c.copy_record.new.new inv.stays next.stays;
     }
+
+pub returns-in_err-copied-clause-stopped : goal.returns-in_err-copied-clause-stopped
+returns-in_err-copied-clause-stopped g c =
+    let p = err_from_is_err_and c.from_residual.result c.from_residual.ensures.1 in
+    rw (p.1, p.2) (stop_moved g.D.SectorDevice.keeps_model (g.D.SectorDevice.disk c.loop-low.old) (g.D.SectorDevice.disk c.args.old.now) c.loop-low.invariant.reads.disk c.args.skips c.in_err-copied.field-0.0 c.in_err-copied.ensures.stopped)

@@ -7,21 +7,21 @@ use Rattle.group_plans.proofs.ReadPlans.{IfOk_both}
 use Rattle.group_plans.proofs.old_maps.read_indirects.Goals as goal
 
 pub returns-then-is_long-clause-exact : goal.returns-then-is_long-clause-exact
-returns-then-is_long-clause-exact g c = λ keeps objects held.
+returns-then-is_long-clause-exact g c = λ keeps held.
     let tree = c.args.tree.now in
     let n : ℕ = c.args.object.now.id.0 in
     let low : n < length tree.entries.items = omega (arith, c.requires.number, tree.all_objects, tree.entries.ok.0) in
     let long : is_long_entry c.index-entry.result.now ≡ true = sym c.is_long.ensures ∙ c.if-is_long.true in
-    let of = long_there tree n c.index-entry.result.now low c.index-entry.ensures (bytes_of (g.B.SectorDevice.disk c.args.reader.now).now) c.args.frame.now objects held c.requires.number long in
+    let of = long_there tree n c.index-entry.result.now low c.index-entry.ensures (bytes_of (g.B.SectorDevice.disk c.args.reader.now).now) c.args.frame.now held long in
     c.read_top_strips.ensures.exact keeps _ of.0 of.1
 
 pub returns-then-is_long-clause-sound : goal.returns-then-is_long-clause-sound
-returns-then-is_long-clause-sound g c = λ keeps objects held size.
+returns-then-is_long-clause-sound g c = λ keeps held size.
     let tree = c.args.tree.now in
     let n : ℕ = c.args.object.now.id.0 in
     let low : n < length tree.entries.items = omega (arith, c.requires.number, tree.all_objects, tree.entries.ok.0) in
     let long : is_long_entry c.index-entry.result.now ≡ true = sym c.is_long.ensures ∙ c.if-is_long.true in
-    let of = long_there tree n c.index-entry.result.now low c.index-entry.ensures (bytes_of (g.B.SectorDevice.disk c.args.reader.now).now) c.args.frame.now objects held c.requires.number long in
+    let of = long_there tree n c.index-entry.result.now low c.index-entry.ensures (bytes_of (g.B.SectorDevice.disk c.args.reader.now).now) c.args.frame.now held long in
     c.read_top_strips.ensures.sound keeps _ of.0 of.1 (sym (size ∙ ap (λ (o : Option (List ℕ)). unwrap_or (option_map length o) 0) of.2))
 
 pub returns-clause-strips : goal.returns-clause-strips
@@ -36,7 +36,7 @@ returns-clause-strips g c =
     )) c.one_strip.ensures.first c.one_strip.ensures.others
 
 pub returns-clause-exact : goal.returns-clause-exact
-returns-clause-exact g c = λ keeps objects held.
+returns-clause-exact g c = λ keeps held.
     let tree = c.args.tree.now in
     let n : ℕ = c.args.object.now.id.0 in
     let low : n < length tree.entries.items = omega (arith, c.requires.number, tree.all_objects, tree.entries.ok.0) in

@@ -3,16 +3,17 @@ use Rattle.std.proofs.lemmas.Result.{err_from_is_err_and}
 use Rattle.base.specs.declared.pointer.Pointer.{Pointer}
 use Rattle.base.specs.disk.Disk.{Disk, bytes_of}
 use Rattle.tree_blocks.specs.Pointers.{ObjectPointers, pointers_of}
-use Rattle.group_plans.specs.OldMaps.{AreStripsRead, HoldsStripsOf, HoldsTreeOf}
+use Rattle.tree_blocks.specs.TreeObjects.{objects_of}
+use Rattle.group_plans.specs.OldMaps.{AreStripsRead, HoldsOwn, HoldsStripsOf}
 use Rattle.group_plans.proofs.OldMaps.{own_is, read_for}
 use Rattle.group_plans.proofs.old_maps.read_map.Goals as goal
 
 pub returns-in_err-strips-clause-sound : goal.returns-in_err-strips-clause-sound
-returns-in_err-strips-clause-sound g c = λ keeps objects held size.
+returns-in_err-strips-clause-sound g c = λ keeps held size.
     let tree = c.args.tree.now in
-    let still = subst (λ (d : Disk). HoldsTreeOf (bytes_of d.now) c.args.frame.now tree objects) (sym (c.in_ok-indirects.ensures.reads.disk keeps)) held in
+    let still = subst (λ (d : Disk). HoldsOwn (bytes_of d.now) c.args.frame.now tree) (sym (c.in_ok-indirects.ensures.reads.disk keeps)) held in
     let holds : HoldsStripsOf (bytes_of (g.B.SectorDevice.disk c.read_indirects.new.reader).now) c.args.frame.now c.args.object.now c.in_ok-indirects.indirects.items (pointers_of tree) =
-    record { objects = objects; tree = still.held; size = size; strips = c.in_ok-indirects.ensures.exact keeps objects held } in
+    record { objects = objects_of tree; tree = still; size = size; strips = c.in_ok-indirects.ensures.exact keeps held } in
     let p = err_from_is_err_and c.from_residual-in_err-strips.result c.from_residual-in_err-strips.ensures.1 in
     rw (p.1, p.2) (c.in_err-strips.ensures.sound keeps (pointers_of tree)
     (subst (λ (l : List Pointer). HoldsStripsOf (bytes_of (g.B.SectorDevice.disk c.read_indirects.new.reader).now) c.args.frame.now c.args.object.now l (pointers_of tree)) (sym c.deref.ensures.value) holds))
@@ -35,12 +36,12 @@ returns-clause-read g c =
     (subst (λ (l : List Pointer). AreStripsRead c.args.frame.now.blocks c.args.object.now 84 l c.in_ok-strips.strips.entries) c.deref.ensures.value c.in_ok-strips.ensures.read)
 
 pub returns-clause-exact : goal.returns-clause-exact
-returns-clause-exact g c = λ keeps objects held size.
+returns-clause-exact g c = λ keeps held size.
     let tree = c.args.tree.now in
-    let still = subst (λ (d : Disk). HoldsTreeOf (bytes_of d.now) c.args.frame.now tree objects) (sym (c.in_ok-indirects.ensures.reads.disk keeps)) held in
-    let strips = c.in_ok-indirects.ensures.exact keeps objects held in
+    let still = subst (λ (d : Disk). HoldsOwn (bytes_of d.now) c.args.frame.now tree) (sym (c.in_ok-indirects.ensures.reads.disk keeps)) held in
+    let strips = c.in_ok-indirects.ensures.exact keeps held in
     let holds : HoldsStripsOf (bytes_of (g.B.SectorDevice.disk c.read_indirects.new.reader).now) c.args.frame.now c.args.object.now c.in_ok-indirects.indirects.items (pointers_of tree) =
-    record { objects = objects; tree = still.held; size = size; strips = strips } in
+    record { objects = objects_of tree; tree = still; size = size; strips = strips } in
     record {
       strips = strips;
       records = c.in_ok-strips.ensures.exact keeps (pointers_of tree)

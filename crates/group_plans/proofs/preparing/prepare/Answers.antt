@@ -4,7 +4,7 @@ use Rattle.std.proofs.lemmas.Result.{err_from_is_err_and}
 use Rattle.base.specs.declared.names.ObjectId.{ObjectId}
 use Rattle.base.specs.disk.Disk.{bytes_of}
 use Rattle.base.specs.kept.PlacedTrees.{HoldsTree}
-use Rattle.contents.specs.ContentsShown.{contents_of}
+use Rattle.tree_blocks.specs.TreeObjects.{objects_of}
 use Rattle.tree_plans.specs.declared.changes.ObjectChanges.{ObjectChanges}
 use Rattle.tree_plans.specs.Pointers.{entry_of, pointers_before}
 use Rattle.tree_plans.proofs.Walks.{found_of, next_of}
@@ -22,7 +22,7 @@ prepare_changed-requires-clause-map g c =
     let rest : List (ObjectId × ObjectChanges) = c.next.new.self in
     let split : all ≡ done ++ (e ∷ rest) = c.loop-id.invariant.split ∙ ap (λ (l : List (ObjectId × ObjectChanges)). done ++ l) c.in-Some.ensures.steps in
     let found : entry_of all e.0.0 ≡ Some e.1 = next_of (λ (x : ObjectId × ObjectChanges). entry_of all x.0.0 ≡ Some x.1) all done rest e split (found_of _ (λ a b. unsigned_tied a.0 b.0) c.args.objects.now c.iter-id-items.ensures.found) in
-    λ low. moved (λ i x a. HasReadMap (objects_with x a) c.args.source.now.old_maps.now.entries e.0.0 e.1) [] [] _ _ _ _ refl (sym c.loop-id.invariant.extents) (sym c.loop-id.invariant.contents) (c.requires.maps e.0.0 e.1 low found)
+    λ low. moved (λ i x a. HasReadMap (objects_with x a) c.args.source.now.old_maps.now.entries e.0.0 e.1) [] [] _ _ _ _ refl (sym c.loop-id.invariant.extents) (sym c.loop-id.invariant.below) (c.requires.maps e.0.0 e.1 low found)
 
 pub loop-id-preserved : goal.loop-id-preserved
 loop-id-preserved g c =
@@ -38,14 +38,14 @@ loop-id-preserved g c =
       disk = λ keeps. ens.reads.disk keeps ∙ inv.disk keeps;
       count = ens.reads.count ∙ inv.count;
       extents = ens.extents ∙ inv.extents;
-      contents = ens.contents ∙ inv.contents;
+      below = ens.below ∙ inv.below;
       done = done ++ (e ∷ []);
       split = inv.split ∙ ap (λ (l : List (ObjectId × ObjectChanges)). done ++ l) c.in-Some.ensures.steps ∙ sym (append_assoc done (e ∷ []) rest);
       ready = ready_more (λ n r. is_some (at_hand c.prepare_changed.new.prepared.records n r) ≡ true) done e
           (λ n changes low at r below dirty. ens.kept n r (inv.ready n changes low at r below dirty)) ens.ready;
       exact = λ keeps holds. moved
-          (λ i x a. HoldsTree i c.args.frame.now (pointers_before c.args.source.now) (contents_of a).objects → AreExact (at_hand c.loop-id.prepared.records) (objects_with x a) → AreExact (at_hand c.prepare_changed.new.prepared.records) (objects_with x a))
-          _ _ _ _ _ _ (ap (λ d. bytes_of d.now) (inv.disk keeps)) inv.extents inv.contents (ens.exact keeps) holds (inv.exact keeps holds);
+          (λ i x a. HoldsTree i c.args.frame.now (pointers_before c.args.source.now) (objects_of a) → AreExact (at_hand c.loop-id.prepared.records) (objects_with x a) → AreExact (at_hand c.prepare_changed.new.prepared.records) (objects_with x a))
+          _ _ _ _ _ _ (ap (λ d. bytes_of d.now) (inv.disk keeps)) inv.extents inv.below (ens.exact keeps) holds (inv.exact keeps holds);
     }
 
 pub returns-in_err-prepare_changed-clause-sound : goal.returns-in_err-prepare_changed-clause-sound
@@ -53,4 +53,4 @@ returns-in_err-prepare_changed-clause-sound g c = λ keeps holds.
     let inv = c.loop-id.invariant in
     let p = err_from_is_err_and c.from_residual.result c.from_residual.ensures.1 in
     rw (p.1, p.2) (c.in_err-prepare_changed.ensures.sound keeps
-    (moved (λ i x a. HoldsTree i c.args.frame.now (pointers_before c.args.source.now) (contents_of a).objects) _ _ c.args.extents.now c.args.extents.now _ _ (ap (λ d. bytes_of d.now) (sym (inv.disk keeps))) refl (sym inv.contents) holds))
+    (moved (λ i x a. HoldsTree i c.args.frame.now (pointers_before c.args.source.now) (objects_of a)) _ _ c.args.extents.now c.args.extents.now _ _ (ap (λ d. bytes_of d.now) (sym (inv.disk keeps))) refl (sym inv.below) holds))

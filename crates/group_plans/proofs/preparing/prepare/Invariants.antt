@@ -3,7 +3,7 @@ use Rattle.std.specs.Prelude.{IsTrue, is_some}
 use Rattle.base.specs.declared.names.ObjectId.{ObjectId}
 use Rattle.base.specs.disk.Disk.{bytes_of}
 use Rattle.base.specs.kept.PlacedTrees.{HoldsTree}
-use Rattle.contents.specs.ContentsShown.{contents_of}
+use Rattle.tree_blocks.specs.TreeObjects.{objects_of}
 use Rattle.tree_plans.specs.declared.changes.ObjectChanges.{ObjectChanges}
 use Rattle.tree_plans.specs.Parts.{AreReady}
 use Rattle.tree_plans.specs.Pointers.{pointers_before}
@@ -19,10 +19,10 @@ invariant-loop-id g l = record {
   disk : IsTrue g.B.SectorDevice.keeps_model → g.B.SectorDevice.disk l.reader ≡ g.B.SectorDevice.disk l.fn.reader;
   count : g.B.SectorDevice.refused l.reader ≡ g.B.SectorDevice.refused l.fn.reader;
   extents : l.prepared.extents.now ≡ l.extents;
-  contents : l.prepared.contents.now ≡ l.contents;
+  below : l.prepared.tree.now ≡ l.source.tree.now;
   done : List (ObjectId × ObjectChanges);
   split : l.objects.entries ≡ done ++ l.id-iterator;
   ready : AreReady (λ n r. is_some (at_hand l.prepared.records n r) ≡ true) done;
-  exact : IsTrue g.B.SectorDevice.keeps_model → HoldsTree (bytes_of (g.B.SectorDevice.disk l.fn.reader).now) l.frame (pointers_before l.source) (contents_of l.contents).objects
-      → AreExact (at_hand l.prepared.records) (objects_with l.extents l.contents);
+  exact : IsTrue g.B.SectorDevice.keeps_model → HoldsTree (bytes_of (g.B.SectorDevice.disk l.fn.reader).now) l.frame (pointers_before l.source) (objects_of l.source.tree.now)
+      → AreExact (at_hand l.prepared.records) (objects_with l.extents l.source.tree.now);
 }

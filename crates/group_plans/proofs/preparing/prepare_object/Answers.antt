@@ -7,7 +7,7 @@ use Rattle.base.specs.disk.Disk.{bytes_of}
 use Rattle.base.specs.tree.Places.{record_of_strip}
 use Rattle.base.specs.tree.Syncs.{is_dirty}
 use Rattle.base.proofs.tree.Strips.{record-back, record-count}
-use Rattle.contents.specs.ContentsShown.{contents_of}
+use Rattle.tree_blocks.specs.TreeObjects.{objects_of}
 use Rattle.tree_plans.specs.Changes.{state_at}
 use Rattle.tree_plans.proofs.Order.{passes_at}
 use Rattle.group_plans.specs.GroupPlans.{objects_with}
@@ -27,7 +27,7 @@ loop-strip-preserved g c =
       disk = λ keeps. ens.reads.disk keeps ∙ inv.disk keeps;
       count = ens.reads.count ∙ inv.count;
       extents = ens.extents ∙ inv.extents;
-      contents = ens.contents ∙ inv.contents;
+      below = ens.below ∙ inv.below;
       kept = λ m s there. ens.kept m s (inv.kept m s there);
       ready = λ j k below low dirty. elim (cases_lt j strip) [
         | inl before ↦ ens.kept c.args.id.0 (record_of_strip j k) (inv.ready j k before low dirty)
@@ -36,8 +36,8 @@ loop-strip-preserved g c =
             rw same (ens.ready k low (rw same at dirty))
       ];
       exact = λ keeps holds old. moved
-          (λ i x a. HoldsMap i c.args.frame.now (contents_of a).objects c.args.id.0 c.args.changes.now c.args.map.now → AreExact one (objects_with x a) → AreExact two (objects_with x a))
-          _ _ _ _ _ _ (ap (λ d. bytes_of d.now) (inv.disk keeps)) inv.extents inv.contents (ens.exact keeps) holds (inv.exact keeps holds old);
+          (λ i x a. HoldsMap i c.args.frame.now (objects_of a) c.args.id.0 c.args.changes.now c.args.map.now → AreExact one (objects_with x a) → AreExact two (objects_with x a))
+          _ _ _ _ _ _ (ap (λ d. bytes_of d.now) (inv.disk keeps)) inv.extents inv.below (ens.exact keeps) holds (inv.exact keeps holds old);
     }
 
 pub returns-in_err-prepare_written-clause-sound : goal.returns-in_err-prepare_written-clause-sound
@@ -45,8 +45,8 @@ returns-in_err-prepare_written-clause-sound g c = λ keeps holds.
     let inv = c.loop-strip.invariant in
     let p = err_from_is_err_and c.from_residual.result c.from_residual.ensures.1 in
     rw (p.1, p.2) (c.in_err-prepare_written.ensures.sound keeps
-    (moved (λ i x a. HoldsMap i c.args.frame.now (contents_of a).objects c.args.id.0 c.args.changes.now c.args.map.now) _ _ c.args.prepared.now.extents.now c.args.prepared.now.extents.now _ _
-    (ap (λ d. bytes_of d.now) (sym (inv.disk keeps))) refl (sym inv.contents) holds))
+    (moved (λ i x a. HoldsMap i c.args.frame.now (objects_of a) c.args.id.0 c.args.changes.now c.args.map.now) _ _ c.args.prepared.now.extents.now c.args.prepared.now.extents.now _ _
+    (ap (λ d. bytes_of d.now) (sym (inv.disk keeps))) refl (sym inv.below) holds))
 
 -- each record of the object lies in one of its strips, and none that is written past the last one
 pub returns-clause-ready : goal.returns-clause-ready

@@ -4,7 +4,7 @@ use Rattle.base.specs.declared.record_state.RecordState.TheVariants.{Dirty}
 use Rattle.base.specs.disk.Disk.{bytes_of}
 use Rattle.base.specs.formats.Limits.{pointer_count}
 use Rattle.base.specs.tree.Places.{record_of_strip}
-use Rattle.contents.specs.ContentsShown.{contents_of}
+use Rattle.tree_blocks.specs.TreeObjects.{objects_of}
 use Rattle.tree_plans.specs.Changes.{state_at}
 use Rattle.group_plans.specs.GroupPlans.{objects_with}
 use Rattle.group_plans.specs.Prepared.{AreExact, HoldsMap, KeepsHand, at_hand}
@@ -16,10 +16,10 @@ invariant-loop-strip g l = record {
   disk : IsTrue g.B.SectorDevice.keeps_model → g.B.SectorDevice.disk l.reader ≡ g.B.SectorDevice.disk l.fn.reader;
   count : g.B.SectorDevice.refused l.reader ≡ g.B.SectorDevice.refused l.fn.reader;
   extents : l.prepared.extents.now ≡ l.fn.prepared.extents.now;
-  contents : l.prepared.contents.now ≡ l.fn.prepared.contents.now;
+  below : l.prepared.tree.now ≡ l.fn.prepared.tree.now;
   kept : KeepsHand (at_hand l.fn.prepared.records) (at_hand l.prepared.records);
   ready : (j k : ℕ) → j < l.strip → k < pointer_count → state_at l.changes (record_of_strip j k) ≡ Dirty → is_some (at_hand l.prepared.records l.id.0 (record_of_strip j k)) ≡ true;
-  exact : IsTrue g.B.SectorDevice.keeps_model → HoldsMap (bytes_of (g.B.SectorDevice.disk l.fn.reader).now) l.frame (contents_of l.fn.prepared.contents.now).objects l.id.0 l.changes l.map
-      → AreExact (at_hand l.fn.prepared.records) (objects_with l.fn.prepared.extents.now l.fn.prepared.contents.now)
-      → AreExact (at_hand l.prepared.records) (objects_with l.fn.prepared.extents.now l.fn.prepared.contents.now);
+  exact : IsTrue g.B.SectorDevice.keeps_model → HoldsMap (bytes_of (g.B.SectorDevice.disk l.fn.reader).now) l.frame (objects_of l.fn.prepared.tree.now) l.id.0 l.changes l.map
+      → AreExact (at_hand l.fn.prepared.records) (objects_with l.fn.prepared.extents.now l.fn.prepared.tree.now)
+      → AreExact (at_hand l.prepared.records) (objects_with l.fn.prepared.extents.now l.fn.prepared.tree.now);
 }

@@ -3,7 +3,7 @@ use Rattle.base.specs.disk.Disk.{bytes_of}
 use Rattle.base.specs.tree.Places.{record_start, strip_number}
 use Rattle.base.specs.tree.Tree.{IsRecord}
 use Rattle.base.proofs.tree.Strips.{record-low}
-use Rattle.contents.specs.ContentsShown.{contents_of}
+use Rattle.tree_blocks.specs.TreeObjects.{objects_of}
 use Rattle.tree_blocks.specs.Sources.{AreBytesFrom, object_length}
 use Rattle.extents.specs.Tables.{patches_of}
 use Rattle.group_plans.specs.Prepared.{number_of_record}
@@ -15,7 +15,7 @@ hides-requires-clause-index g c = rw c.number.ensures (record-low c.args.place.s
 
 pub returns-clause-exact : goal.returns-clause-exact
 returns-clause-exact g c = λ keeps holds.
-    let objects = (contents_of c.args.contents.now).objects in
+    let objects = (objects_of c.args.tree.now) in
     let image = bytes_of (g.B.SectorDevice.disk c.args.reader.now).now in
     let place = c.args.place in
     let told : object_length objects place.id.0 ≡ Some c.in-Some.size = search rules in
@@ -29,7 +29,7 @@ returns-clause-exact g c = λ keeps holds.
 
 pub returns-clause-sound : goal.returns-clause-sound
 returns-clause-sound g c = λ keeps holds.
-    let objects = (contents_of c.args.contents.now).objects in
+    let objects = (objects_of c.args.tree.now) in
     let image = bytes_of (g.B.SectorDevice.disk c.args.reader.now).now in
     let place = c.args.place in
     let told : object_length objects place.id.0 ≡ Some c.in-Some.size = search rules in

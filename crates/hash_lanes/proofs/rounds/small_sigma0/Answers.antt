@@ -4,5 +4,5 @@ use Rattle.hash_lanes.proofs.rounds.small_sigma0.Goals as goal
 
 pub returns : goal.returns
 returns c =
-    let shifted = both (λ a b. a / 2 ^ b) (own c.args.x c.fits-x.0) (splat 3) in
+    let shifted = both (λ a b. a / 2 ^ b) (own c.args.x c.fits-x.0) (splat 4 3) in
     both bit_xor (both bit_xor c.rotate.ensures c.rotate-2.ensures) shifted

@@ -6,4 +6,4 @@ pub returns : goal.returns
 returns c =
     let h = own c.args.h c.fits-h.0 in
     let word = own c.args.word c.fits-word.0 in
-    both add32 (both add32 (both add32 (both add32 h c.big_sigma1.ensures) c.ch.ensures) (splat c.args.k)) word
+    both add32 (both add32 (both add32 (both add32 h c.big_sigma1.ensures) c.ch.ensures) (splat 4 c.args.k)) word

@@ -1,9 +1,4 @@
-use Rattle.std.proofs.Common.{◌∙◌, refl, arith, subst}
-use Rattle.base.specs.formats.Labels.{Config}
-use Rattle.uberblocks.specs.Slots.{fields_of}
-use Rattle.import_replay.specs.ImportStops.{writes_of_next}
-use Rattle.import_replay.specs.ImportViews.{EndsBehind, KeepsViews}
-use Rattle.import_replay.specs.LabelSyncs.{ImportWrites}
+use Rattle.std.proofs.Common.{refl, arith}
 use Rattle.import_replay.proofs.MountedPools.{group-within, import-within}
 use Rattle.import_replay.proofs.importing.open_pool.Goals as goal
 

@@ -1,4 +1,4 @@
-use Rattle.std.proofs.Common.{ℕ, List, ◌∙◌, ap, arith, inl, inr, subst}
+use Rattle.std.proofs.Common.{ℕ, List, ◌+◌, ◌∙◌, ap, arith, inl, inr, subst}
 use Rattle.std.specs.Global.{Vec}
 use Rattle.std.proofs.lemmas.Result.{err_from_is_err_and}
 use Rattle.base.specs.formats.Geometry.{block_count}
@@ -6,6 +6,8 @@ use Rattle.space.specs.FreeSets.{FreeSpace, after_take}
 use Rattle.trees.specs.FreeBlocks.{BlocksTaken}
 use Rattle.tree_plans.specs.declared.planner.PlannedBlock.{PlannedBlock}
 use Rattle.tree_plans.specs.declared.planner.TreePlan.{TreePlan}
+use Rattle.extents.specs.Tables.{patches_of}
+use Rattle.group_plans.proofs.LaidLengths.{lengths_laid}
 use Rattle.import_replay.specs.FreeBlocks.{AreAllPlanned, IsLeftByPlan, IsLowestLeft, is_planned}
 use Rattle.mounted.specs.GivenBlocks.{after_gives}
 use Rattle.import_replay.proofs.LeftBlocks.{left_idle, left_sized}
@@ -35,6 +37,11 @@ returns-in_err-log_block-clause-reads g c =
 pub block_address-requires : goal.block_address-requires
 block_address-requires g c = let within = c.in_ok-log_block.ensures.lowest.within in omega (arith, within, c.requires.sized)
 
+pub lay_plan-blocks-requires : goal.lay_plan-blocks-requires
+lay_plan-blocks-requires g c =
+    let pool = c.args.pool in
+    lengths_laid (c.args.uberblock.now.group.0 + 4) pool.replayed.records.items pool.synced.tree (patches_of pool.replayed.extents) _ c.requires.changes c.in_ok-planned.ensures.tree.1.lengths
+
 pub returns-clause-planned : goal.returns-clause-planned
 returns-clause-planned g c =
     let plan : TreePlan = c.in_ok-planned.planned in
@@ -52,15 +59,14 @@ returns-clause-planned g c =
       taken = c.in_ok-planned.ensures.taken;
       made = c.in_ok-planned.ensures.tree;
       objects = c.in_ok-planned.ensures.objects;
-      blocks_are = ap (λ (v : Vec PlannedBlock). v.items) c.with_plan-tree.ensures.blocks;
-      pointers = c.with_plan-tree.ensures.pointers;
-      lengths = c.with_plan-tree.ensures.lengths;
-      contents_are = c.lay_into.ensures;
+      blocks_are = ap (λ (v : Vec PlannedBlock). v.items) c.lay_plan-blocks.ensures.blocks;
+      pointers = c.lay_plan-blocks.ensures.pointers;
+      contents_are = c.lay_plan-blocks.ensures.contents;
       log_block = log_block;
       log_is = c.block_address.ensures.address;
       lowest = subst (λ (bs : List PlannedBlock). IsLowestLeft c.args.pool.spare bs log_block) c.deref.ensures.value c.in_ok-log_block.ensures.lowest;
       free = free;
-      sized = left_sized c.args.pool.tree (block_count c.args.geometry) c.args.pool.free c.take.new.self plan log_block c.requires.free free;
-      idle = left_idle c.args.pool.tree (block_count c.args.geometry) c.args.pool.free c.take.new.self plan log_block c.requires.free free;
+      sized = left_sized c.args.pool.synced.tree (block_count c.args.geometry) c.args.pool.free c.take.new.self plan log_block c.requires.free free;
+      idle = left_idle c.args.pool.synced.tree (block_count c.args.geometry) c.args.pool.free c.take.new.self plan log_block c.requires.free free;
       records_are = omega (arith, c.len.ensures, counted);
     }

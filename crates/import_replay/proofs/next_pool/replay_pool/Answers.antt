@@ -1,10 +1,8 @@
-use Rattle.std.proofs.Common.{ℕ, List, ap, refl, subst, ◌∙◌}
-use Rattle.std.specs.Global.{Vec}
+use Rattle.std.proofs.Common.{ℕ, List, refl, subst}
 use Rattle.std.specs.List.{list_any}
 use Rattle.base.specs.formats.Chain.{LogPiece}
 use Rattle.base.specs.formats.Geometry.{block_count}
 use Rattle.trees.specs.FreeBlocks.{BlocksTaken}
-use Rattle.contents.specs.declared.contents.Slot.{Slot}
 use Rattle.space.specs.FreeSets.{FreeSpace}
 use Rattle.import_replay.specs.FreeBlocks.{logs_block}
 use Rattle.import_replay.proofs.FreeBlocks.{unused-from_taken}
@@ -20,8 +18,7 @@ returns-clause-replayed c =
     (subst (λ (bs : List LogPiece). BlocksTaken (λ k. list_any (logs_block k) bs) c.in_ok-spare.spare left) c.deref.ensures.value c.take_logged.ensures.taken) in
     record {
       tree_is = refl;
-      name_is = c.of-synced.ensures.name ∙ c.copy-2.ensures.copy;
-      slots_are = ap (λ (v : Vec Slot). v.items) c.of-synced.ensures.slots;
+      name_is = c.copy-2.ensures.copy;
       free = c.requires.free;
       spare = unused-from_taken c.args.loaded.tree chain blocks c.args.loaded.free left c.requires.free taken;
       sized = c.take_logged.ensures.count;

@@ -5,7 +5,7 @@ use Rattle.uberblocks.specs.Slots.{fields_of}
 use Rattle.import_replay.specs.ImportRefusals.{IsReason}
 use Rattle.base.specs.formats.Blocks.{Frame}
 use Rattle.base.specs.kept.PlacedTrees.{ArePlaced}
-use Rattle.contents.specs.ContentsShown.{objects_of}
+use Rattle.tree_blocks.specs.TreeObjects.{objects_of}
 use Rattle.tree_blocks.specs.Pointers.{pointers_of}
 use Rattle.import_replay.proofs.ReadPools.{is_read_damaged, is_read_pool}
 use Rattle.import_replay.proofs.Reasons.{passed_on, reason-chain, reason-load}
@@ -35,7 +35,7 @@ returns-clause-pool g c = λ keeps.
     is_read_pool image (g.D.SectorDevice.disk c.find_pool.new.device) c.args.geometry _ u c.in_ok-found.found.name
     (g.met.D.SectorDevice.sized keeps c.args.device.now ∙ c.requires.sized.size) (ap (λ (d : Disk). bytes_of d.now) (c.find_pool.ensures.reads.disk keeps))
     (c.in_ok-found.ensures.pool keeps) c.frame_of-frame.ensures
-    c.in_ok-loaded.loaded.tree (objects_of c.in_ok-loaded.loaded.slots.items) c.in_ok-logged.logged.items (c.in_ok-loaded.ensures.tree keeps) c.in_ok-loaded.ensures.root
+    c.in_ok-loaded.loaded.tree (objects_of c.in_ok-loaded.loaded.tree) c.in_ok-logged.logged.items (c.in_ok-loaded.ensures.tree keeps) c.in_ok-loaded.ensures.root
     (subst (λ (d : Disk). IsChainOf (bytes_of d.now) u c.in_ok-logged.logged.items) (c.load.ensures.reads.disk keeps ∙ c.find_pool.ensures.reads.disk keeps) (c.in_ok-logged.ensures.chain keeps))
 
 pub returns-clause-loaded : goal.returns-clause-loaded
@@ -45,7 +45,6 @@ returns-clause-loaded g c =
     record {
       root = told.root;
       placed = subst (λ (f : Frame). ArePlaced f.blocks (pointers_of loaded.tree)) c.frame_of-frame.ensures told.placed;
-      bounded = told.objects.0;
-      lengths = told.objects.1;
+      bounded = told.objects;
       sound = c.in_ok-logged.ensures.sound;
     }

@@ -32,7 +32,7 @@ returns-in_err-pool-clause-refused g c =
     let sized : IsGeometry (g.D.SectorDevice.size c.args.device.now) = subst IsGeometry c.sectors.ensures.size (c.in_ok-geometry.ensures.ok.0 refl) in
     passed_on c.from_residual-in_err-pool.result x _ c.from_residual-in_err-pool.ensures.1
     (walk_refused g.D.SectorDevice c.args.device.now _ x sized (cause_walks x c.in_err-pool.ensures.cause) (λ keeps.
-    reason_of_replay (bytes_of (g.D.SectorDevice.disk c.args.device.now).now) c.in_ok-geometry.geometry (fields_of found.uberblock) found.name loaded.tree loaded.slots.items c.in_ok-found.logged.items
+    reason_of_replay (bytes_of (g.D.SectorDevice.disk c.args.device.now).now) c.in_ok-geometry.geometry (fields_of found.uberblock) found.name loaded.tree c.in_ok-found.logged.items
     (c.in_ok-found.ensures.pool keeps) x c.in_err-pool.ensures.cause c.in_err-pool.ensures.refused))
 
 pub returns-in_err-view-clause-reads : goal.returns-in_err-view-clause-reads
@@ -52,8 +52,8 @@ returns-clause-mounted g c = λ keeps.
     let found = c.in_ok-found.found in
     let loaded = c.in_ok-found.loaded in
     let made = c.in_ok-view.ensures in
-    is_view c.in_ok-geometry.geometry (fields_of found.uberblock) found.name loaded.tree loaded.slots.items c.in_ok-found.logged.items c.in_ok-pool.pool c.in_ok-pool.ensures.replayed _ (made.frame ∙ c.frame_of-frame.ensures)
-    (g.D.SectorDevice.disk c.args.device.now) (c.in_ok-found.ensures.pool keeps) c.in_ok-found.ensures.loaded.lengths made.tree made.synced made.changes
+    is_view c.in_ok-geometry.geometry (fields_of found.uberblock) found.name loaded.tree c.in_ok-found.logged.items c.in_ok-pool.pool c.in_ok-pool.ensures.replayed _ (made.frame ∙ c.frame_of-frame.ensures)
+    (g.D.SectorDevice.disk c.args.device.now) (c.in_ok-found.ensures.pool keeps) made.synced made.changes
 
 pub returns-clause-fits : goal.returns-clause-fits
 returns-clause-fits g c =

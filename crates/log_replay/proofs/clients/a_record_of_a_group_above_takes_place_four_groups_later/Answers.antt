@@ -5,4 +5,4 @@ use Rattle.log_replay.proofs.clients.a_record_of_a_group_above_takes_place_four_
 
 pub returns-clause-object : goal.returns-clause-object
 returns-clause-object c =
-    IfOk-weaker c.replay.result _ _ (λ r is. object_created (contents_of c.args.contents.now) c.requires.absent r (rw c.requires.chain at is)) c.replay.ensures.replayed
+    IfOk-weaker c.replay.result _ _ (λ r is. object_created (contents_of c.args.synced.now) c.requires.absent r (rw c.requires.chain at is)) c.replay.ensures.replayed

@@ -5,4 +5,4 @@ use Rattle.log_replay.proofs.clients.a_record_that_is_refused_is_a_damage_of_its
 
 pub returns-clause-address : goal.returns-clause-address
 returns-clause-address c =
-    IfErr-weaker c.replay.result _ _ (λ e is. creation_reported (contents_of c.args.contents.now) c.requires.there e (rw c.requires.chain at is)) c.replay.ensures.refused
+    IfErr-weaker c.replay.result _ _ (λ e is. creation_reported (contents_of c.args.synced.now) c.requires.there e (rw c.requires.chain at is)) c.replay.ensures.refused

@@ -8,4 +8,4 @@ abbrev pub invariant-loop-piece : goal.invariant-loop-piece
 invariant-loop-piece l =
     (goal.iterator-loop-piece).can_next l.piece-iterator ×
     (goal.iterator-loop-piece).is_finite l.piece-iterator ×
-    IsAtPieces l.fn.group.0 (contents_of l.fn.contents) l.fn.pieces.items (into_iter_items l.piece-iterator) l.replayed
+    IsAtPieces l.fn.group.0 (contents_of l.fn.synced) l.fn.pieces.items (into_iter_items l.piece-iterator) l.replayed

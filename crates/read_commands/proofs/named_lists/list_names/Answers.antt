@@ -1,4 +1,4 @@
-use Rattle.std.proofs.Common.{ap, ℕ, List, Option, Result, subst, sym, ◌∙◌, refl}
+use Rattle.std.proofs.Common.{ap, inl, inr, ℕ, List, Option, Result, subst, sym, ◌∙◌, refl}
 use Rattle.std.specs.Prelude.{IfErr, IfOk, IsTrue}
 use Rattle.std.proofs.lemmas.Bool.{false≢true, true≢false}
 use Rattle.base.specs.declared.error.PoolError.{PoolError}
@@ -6,6 +6,7 @@ use Rattle.base.specs.disk.Disk.{Disk, bytes_of}
 use Rattle.object_names.specs.NameTables.{has_object}
 use Rattle.read_commands.specs.Scopes.{IsAssured}
 use Rattle.read_commands.specs.Undone.{IsGetRefused}
+use Rattle.read_commands.proofs.NamedUndone.{refused_before}
 use Rattle.read_commands.proofs.ScopedReads.{get_readers, kept, list_readers}
 use Rattle.read_commands.specs.NamedTables.{IsTableChecked, IsTableIn, table_range}
 use Rattle.read_commands.proofs.named_lists.list_names.Goals as goal
@@ -50,3 +51,13 @@ returns-in-Err-table-clause-refused g c =
     let look = c.read_table-table in
     get_readers g.D.SectorDevice c.args.scope 0 table_range c.list_objects.new.device look.result.1 c.in-Err-table.refusal
     (subst (λ (r : Result (Option (List ℕ)) PoolError). IfErr r (IsGetRefused g.D.SectorDevice c.args.scope 0 table_range c.list_objects.new.device look.result.1)) c.in-Err-table.is look.ensures.refused)
+
+pub returns-in-Err-clause-cause : goal.returns-in-Err-clause-cause
+returns-in-Err-clause-cause g c = inl c.in-Err.ensures.refused
+
+pub returns-in-Err-table-clause-cause : goal.returns-in-Err-table-clause-cause
+returns-in-Err-table-clause-cause g c =
+    let D = g.D.SectorDevice in
+    let look = c.read_table-table in
+    inr (refused_before D c.args.device c.list_objects.new.device c.in-Ok.ensures.reads.disk c.args.scope 0 table_range look.result.1 c.in-Err-table.refusal
+    (subst (λ (r : Result (Option (List ℕ)) PoolError). IfErr r (IsGetRefused D c.args.scope 0 table_range c.list_objects.new.device look.result.1)) c.in-Err-table.is look.ensures.refused))

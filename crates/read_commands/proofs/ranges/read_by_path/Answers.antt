@@ -1,4 +1,4 @@
-use Rattle.std.proofs.Common.{◌≡◌, ℕ, List, subst, sym}
+use Rattle.std.proofs.Common.{◌≡◌, ℕ, List, subst}
 use Rattle.std.specs.Prelude.{IfErr, IfOk}
 use Rattle.std.proofs.lemmas.Result.{err_from_is_err_and}
 use Rattle.base.specs.declared.error.PoolError.TheVariants.{NoObject}
@@ -8,7 +8,6 @@ use Rattle.base.specs.tree.Mount.{MountsTo}
 use Rattle.inspections.specs.PoolDamages.{IsOfNoDamage}
 use Rattle.object_views.specs.ObjectViews.{IsCheckedRead, IsObjectViewOf, TellsBetween}
 use Rattle.tree_blocks.specs.Sources.{range_in}
-use Rattle.read_commands.specs.PathReads.{IsCheckedRange, IsPathRefusal, IsUnseen}
 use Rattle.read_commands.specs.Reads.{IsAbsentIn, IsMountedRange}
 use Rattle.read_commands.proofs.PathReads.{path_absent, path_checked, path_mounted, path_unseen, reading_refused, viewing_refused}
 use Rattle.read_commands.proofs.ranges.read_by_path.Goals as goal

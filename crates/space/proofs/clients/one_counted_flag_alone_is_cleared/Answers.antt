@@ -1,4 +1,4 @@
-use Rattle.std.proofs.Common.{◌≡◌, rules, false, get_or, ◌∙◌, ap, get_or-set_same}
+use Rattle.std.proofs.Common.{rules, false, get_or, ◌∙◌, ap, get_or-set_same}
 use Rattle.space.proofs.SetFlags.{set_within}
 use Rattle.space.proofs.clients.one_counted_flag_alone_is_cleared.Goals as goal
 

@@ -1,12 +1,8 @@
-use Rattle.std.proofs.Common.{◌≡◌, ◌∙◌, ℕ, List, [], refl, subst, sym, arith}
-use Rattle.std.specs.Ordering.{nat_cmp}
+use Rattle.std.proofs.Common.{◌≡◌, ◌∙◌, ℕ, List, [], refl, subst, arith}
 use Rattle.std.specs.FinMap as finite
-use Rattle.std.specs.FinMap.{FinMap}
 use Rattle.std.proofs.lemmas.Result.{err_from_is_err_and}
 use Rattle.base.specs.disk.Disk.{bytes_of}
-use Rattle.contents.specs.ContentsShown.{objects_of}
 use Rattle.space.specs.FreeSets.{HasAllOf}
-use Rattle.tree_blocks.specs.Lengths.{HaveLengthsOf}
 use Rattle.trees.specs.DamageLists.{AddsDamages}
 use Rattle.trees.specs.Walking.{directory_index}
 use Rattle.trees.specs.declared.damages.BlockDamage.{BlockDamage}
@@ -55,13 +51,13 @@ returns-clause-examined g c =
     let of = c.into_loaded.ensures in
     let (objects, stands, marks, tree) = c.in_ok-whole.ensures.loaded image (λ keeps. refl) c.if-not-whole.false finite.empty made.objects made.empty in
     let whole = whole_tree g.D.SectorDevice.keeps_model image c.args.frame.now c.args.root c.walk_tree.new.directories c.in_ok-directories.directories.items objects
-    c.walk_tree.new.objects.entries.items c.in_ok-directories.directories.len (c.walk_tree.auto.directories ∙ c.deref_mut.ensures.len) tree (objects_of c.walk_tree.new.objects.slots.items) stands.0 in
+    c.walk_tree.new.objects.entries.items c.in_ok-directories.directories.len (c.walk_tree.auto.directories ∙ c.deref_mut.ensures.len) tree c.walk_tree.new.objects.told.value stands in
     record {
       root_is = of.root;
       placed = rw (of.root, of.directories, of.entries) whole.placed;
       unnamed = of.free c.args.frame.now.blocks (marks c.args.frame.now.blocks
           (marked_new c.in_ok-objects.objects.entries.items c.args.frame.now.blocks c.in_ok-free.free (λ n. (made.empty.each n (omega arith)).pointers)
           (c.in_ok-free.ensures.blocks ∙ c.blocks-2.ensures) (subst (λ (n : ℕ). HasAllOf n c.in_ok-free.free.free) c.blocks-2.ensures c.in_ok-free.ensures.all) c.in_ok-free.ensures.idle));
-      objects = rw (of.entries, of.slots) (whole.bounded, λ n low. subst (λ (m : FinMap nat_cmp (List ℕ)). HaveLengthsOf c.walk_tree.new.objects.entries.items m) (sym stands.0) stands.1 n);
-      held = λ keeps. rw (of.root, of.directories, of.entries, of.slots) (whole.held keeps);
+      objects = rw of.objects whole.bounded;
+      held = λ keeps. rw (of.root, of.directories, of.entries, of.objects) (whole.held keeps);
     }

@@ -1,4 +1,4 @@
-use Rattle.contents.proofs.Judged.{all_bytes}
+use Rattle.tree_blocks.proofs.Bytes.{all_bytes}
 use Rattle.extents.proofs.extents.Extents.reserve_bytes.Goals as goal
 
 pub returns-clause-bytes : goal.returns-clause-bytes

@@ -28,7 +28,7 @@ stay_cut (Err e) objects old new n r key payload bytes low is are updates same c
 
 pub invariant_of-self : goal.invariant_of-self
 invariant_of-self c = record {
-  cut = stay_cut c.insert.result (objects_with c.args.self.now.extents.now c.args.self.now.contents.now) c.args.self.now.records c.insert.new.self c.args.id.0 c.args.index c.record_number.result c.cut.new.payload c.in_ok-bytes.bytes
+  cut = stay_cut c.insert.result (objects_with c.args.self.now.extents.now c.args.self.now.tree.now) c.args.self.now.records c.insert.new.self c.args.id.0 c.args.index c.record_number.result c.cut.new.payload c.in_ok-bytes.bytes
       c.requires.index c.record_number.ensures c.in_ok-bytes.ensures c.insert.ensures.updates c.insert.ensures.err c.cut.ensures.cut c.args.self.now.cut;
 }
 

@@ -8,4 +8,4 @@ abbrev pub invariant-loop-record : goal.invariant-loop-record
 invariant-loop-record l =
     (goal.iterator-loop-record).can_next l.record-iterator ×
     (goal.iterator-loop-record).is_finite l.record-iterator ×
-    IsAtRecords l.fn.group.0 (contents_of l.fn.contents) l.fn.piece (into_iter_items l.record-iterator) l.fn.self l.self
+    IsAtRecords l.fn.group.0 (contents_of l.fn.synced) l.fn.piece (into_iter_items l.record-iterator) l.fn.self l.self

@@ -9,6 +9,6 @@ use Rattle.object_maps_clients.proofs.changes.reads.bytes_after_a_cut_do_not_com
 
 pub returns : goal.returns
 returns c =
-    ap (λ (x : Contents). finite.get x.objects 7) c.lay_into.ensures
-    ∙ get-laid_over (patches_of c.args.extents.now) (contents_of c.args.contents.now).objects 7 (omega arith)
-    ∙ cut-three (patches_of c.args.extents.now 7) (finite.get (contents_of c.args.contents.now).objects 7) c.requires.basis c.requires.written c.requires.object
+    ap (λ (x : Contents). finite.get x.objects 7) c.lay_into.ensures.contents
+    ∙ get-laid_over (patches_of c.args.extents.now) (contents_of c.args.synced.now).objects 7 (omega arith)
+    ∙ cut-three (patches_of c.args.extents.now 7) (finite.get (contents_of c.args.synced.now).objects 7) c.requires.basis c.requires.written c.requires.object

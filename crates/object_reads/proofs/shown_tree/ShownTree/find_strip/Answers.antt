@@ -17,7 +17,7 @@ returns-then-is_long-clause-sound g c = λ stands.
     let n = c.args.id.0 in
     let b = bytes_long (finite.get (synced_objects t) n) c.args.size (sym c.requires.size) in
     let low : n < length t.tree.now.entries.items = omega (arith, c.requires.number, t.tree.now.entries.ok.0, t.tree.now.all_objects) in
-    let long = subst IsLong b.1 (entry_is_long t.tree.now n c.index-entry.result.now c.requires.number low c.index-entry.ensures (finite.get (synced_objects t) n) (stands.lengths n c.requires.number) (sym c.is_long.ensures ∙ c.if-is_long.true)) in
+    let long = subst IsLong b.1 (entry_is_long t.tree.now n c.index-entry.result.now c.requires.number low c.index-entry.ensures (finite.get (synced_objects t) n) (t.tree.now.sized n) (sym c.is_long.ensures ∙ c.if-is_long.true)) in
     IfErr-weaker c.strip_pointer.result (λ _. ⊥) (λ e. e ≡ error.Read) (λ e never. absurd never) (c.strip_pointer.ensures.sound
     (strip_formed g.B.SectorDevice t c.args.reader.now stands n b.0 c.requires.number b.1 c.args.strip c.args.size (pointer_in c.read_own_top.new.blocks.top c.args.strip) c.requires.strip long b.2
     (c.in_ok-read_own_top.ensures.strips stands c.args.strip c.requires.strip)))

@@ -22,7 +22,9 @@ use Rattle.pool_tables.specs.Shows.{pool_shown, shown_contents}
 use Rattle.pool_tables.proofs.CommitSteps.{commit_refused, commit_wants}
 use Rattle.pool_tables.proofs.Entered.{entered}
 use Rattle.pool_tables.proofs.OfNoDevice.{commit_own}
-use Rattle.pool_tables.proofs.PendingChanges.{changes_left_at, names_left_at, committed_behind, shown_left}
+use Rattle.pool_tables.proofs.PendingChanges.{changes_left_at, committed_behind, names_left_at, same_changes, shown_left}
+use Rattle.extents.specs.Patches.{Patches}
+use Rattle.extents.specs.Synced.{HaveLengthsAfter}
 use Rattle.pool_tables.proofs.pool.PoolTables.commit.Goals as goal
 
 pub returns-in_err-group-clause-step : goal.returns-in_err-group-clause-step
@@ -66,6 +68,7 @@ invariant_of-self c =
       unsynced_kept = subst (λ (rs : List Record). KeepsUnsynced pool.groups.line rs pool.synced pool.changes) (sym (ap (λ (l : RunLog). l.records) c.reserve_record.ensures.same)) pool.unsynced_kept;
       logged = subst (IsLogOf pool.groups.line.synced) log pool.logged;
       log_placed = subst (λ (l : Log). AreBlocksOf (block_count pool.geometry) (log_addresses l)) log pool.log_placed;
+      sync_lengths = pool.sync_lengths;
       sync_header = λ r is. subst (λ (l : Log). KeepsHeader r.group.0 (header_fields r.header) l) log (pool.sync_header r is);
     }
 
@@ -97,6 +100,7 @@ invariant_of-self-2 c =
       sync_line = pool.sync_line;
       tree_placed = pool.tree_placed;
       log_placed = subst (λ (l : Log). AreBlocksOf (block_count pool.geometry) (log_addresses l)) log pool.log_placed;
+      sync_lengths = λ r is. subst (λ (p : Patches). HaveLengthsAfter p r.entries pool.synced.tree) (sym (same_changes pool.changes c.reserve.new.self c.reserve.ensures.same 0)) (pool.sync_lengths r is);
       sync_header = λ r is. subst (λ (l : Log). KeepsHeader r.group.0 (header_fields r.header) l) log (pool.sync_header r is);
       unsynced_kept = record {
         open_or_before = rw records pool.unsynced_kept.open_or_before;

@@ -22,13 +22,13 @@ pub digest-requires-clause-fits : goal.digest-requires-clause-fits
 digest-requires-clause-fits g c =
     let p = c.args.self.now in
     let made = c.shown_tree.ensures in
-    tree_fits p c.shown_tree.result made.frame made.tree made.contents made.changes p.sized _ c.requires.sized
+    tree_fits p c.shown_tree.result made.frame made.tree made.changes p.sized _ c.requires.sized
 
 pub digest-requires-clause-within : goal.digest-requires-clause-within
 digest-requires-clause-within g c =
     let pool = c.args.self.now in
     let made = c.shown_tree.ensures in
-    let same = objects_are pool c.shown_tree.result made.frame made.tree made.contents made.changes in
+    let same = objects_are pool c.shown_tree.result made.frame made.tree made.changes in
     subst AreWithin (sym same) (laid_stay_within pool.changes (synced_of pool).objects pool.unsynced_kept.within)
 
 pub returns-clause-step : goal.returns-clause-step
@@ -38,8 +38,8 @@ pub returns-clause-held : goal.returns-clause-held
 returns-clause-held g c = λ keeps past h.
     let pool = c.args.self.now in
     let made = c.shown_tree.ensures in
-    let same = objects_are pool c.shown_tree.result made.frame made.tree made.contents made.changes in
-    let stands = held_stands pool c.shown_tree.result made.frame made.tree made.contents made.changes g.B.SectorDevice c.args.reader.now keeps past h in
+    let same = objects_are pool c.shown_tree.result made.frame made.tree made.changes in
+    let stands = held_stands pool c.shown_tree.result made.frame made.tree made.changes g.B.SectorDevice c.args.reader.now keeps past h in
     digest_told (Unit {0}) (pool_shown pool) past c.in_ok-check_running.ensures c.digest.result (λ _. rw (same, c.shown_name.ensures) at (c.digest.ensures.exact stands)) c.digest.ensures.refused
     (λ _. c.digest.ensures.sound stands)
 

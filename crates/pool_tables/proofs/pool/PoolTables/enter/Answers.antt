@@ -10,6 +10,8 @@ use Rattle.intent_log.specs.Kept.{header_fields, log_shown}
 use Rattle.intent_log.specs.RunLogs.{IsLogOf, KeepsHeader}
 use Rattle.intent_log.proofs.RunLogs.{entered_log, header_entered}
 use Rattle.unsynced_extents.specs.Unsynced.{laid_all, name_over}
+use Rattle.extents.specs.Patches.{Patches}
+use Rattle.extents.specs.Synced.{HaveLengthsAfter}
 use Rattle.groups.specs.CountedLines.{CountedLine, after_release}
 use Rattle.groups.specs.Laws.{AreHoldsExact}
 use Rattle.throttle.proofs.OpenCharges.{stay_charged}
@@ -67,6 +69,7 @@ invariant_of-self c =
       sync_line = pool.sync_line ∙ ap (λ l. l.syncing) (sym line);
       tree_placed = pool.tree_placed;
       log_placed = subst (λ (l : Log). AreBlocksOf (block_count pool.geometry) (log_addresses l)) (sym log) pool.log_placed;
+      sync_lengths = λ r is. subst (λ (p : Patches). HaveLengthsAfter p r.entries pool.synced.tree) (sym (kept_oldest pool group hold c.args.place c.apply.new.self c.requires.place r is c.apply.ensures.others).0) (pool.sync_lengths r is);
       sync_header = λ r is. subst (λ (l : Log). KeepsHeader r.group.0 (header_fields r.header) l) (sym log) (header_entered r.group.0 (header_fields r.header) _ (log_shown pool.log) (pool.sync_header r is));
       unsynced_kept = record {
         open_or_before = rw (line, c.enter.ensures.records) (All-push (λ (x : Record). x.group.0 ≤ pool.groups.line.open_group) pool.log.records _ pool.unsynced_kept.open_or_before behind.open_or_before);

@@ -17,7 +17,7 @@ pub returns-clause-objects : goal.returns-clause-objects
 returns-clause-objects g c = λ keeps holds.
     let pool = c.args.self.now in
     let oldest : c.oldest.result.now ≡ pool.changes.oldest = Some-injective c.oldest.ensures in
-    subst (λ (extents : Extents). IfOk c.plan_group.result (HoldsGroupObjects (frame_at (pool_shown pool) c.args.group.0) pool.tree pool.log.records (objects_with extents pool.synced))) oldest
+    subst (λ (extents : Extents). IfOk c.plan_group.result (HoldsGroupObjects (frame_at (pool_shown pool) c.args.group.0) pool.synced.tree pool.log.records (objects_with extents pool.synced.tree))) oldest
     (rw c.records.ensures at (c.plan_group.ensures.objects keeps (rw c.synced_frame.ensures holds)))
 
 pub returns-clause-sound : goal.returns-clause-sound

@@ -77,12 +77,12 @@ pub read_range-requires-clause-fits : goal.read_range-requires-clause-fits
 read_range-requires-clause-fits g c =
     let p = c.args.self.now in
     let made = c.shown_tree.ensures in
-    tree_fits p c.shown_tree.result made.frame made.tree made.contents made.changes p.sized _ c.requires.sized
+    tree_fits p c.shown_tree.result made.frame made.tree made.changes p.sized _ c.requires.sized
 
 pub read_range-requires-clause-length : goal.read_range-requires-clause-length
 read_range-requires-clause-length g c =
     let made = c.shown_tree.ensures in
-    let same = objects_are c.args.self.now c.shown_tree.result made.frame made.tree made.contents made.changes in
+    let same = objects_are c.args.self.now c.shown_tree.result made.frame made.tree made.changes in
     rw same (sym c.in-Some.is ∙ c.shown_length.ensures)
 
 pub returns-clause-step : goal.returns-clause-step
@@ -95,7 +95,7 @@ returns-clause-step g c =
     let there = has_length _ _ _ c.shown_length.ensures c.in-Some.is in
     let passes = read_passes owner t s c.in_ok-check_running.ensures readable covered there in
     let made = c.shown_tree.ensures in
-    let same = objects_are c.args.self.now c.shown_tree.result made.frame made.tree made.contents made.changes in
+    let same = objects_are c.args.self.now c.shown_tree.result made.frame made.tree made.changes in
     λ past. (past, read_told ⊥ owner t s past passes there c.read_range.result (λ never. absurd never) c.read_range.ensures.refused (λ never. absurd never))
 
 pub returns-clause-held : goal.returns-clause-held
@@ -108,8 +108,8 @@ returns-clause-held g c =
     let there = has_length _ _ _ c.shown_length.ensures c.in-Some.is in
     let passes = read_passes owner t s c.in_ok-check_running.ensures readable covered there in
     let made = c.shown_tree.ensures in
-    let same = objects_are c.args.self.now c.shown_tree.result made.frame made.tree made.contents made.changes in
+    let same = objects_are c.args.self.now c.shown_tree.result made.frame made.tree made.changes in
     λ keeps past h.
-    let stands = held_stands c.args.self.now c.shown_tree.result made.frame made.tree made.contents made.changes g.B.SectorDevice c.args.reader.now keeps past h in
+    let stands = held_stands c.args.self.now c.shown_tree.result made.frame made.tree made.changes g.B.SectorDevice c.args.reader.now keeps past h in
     read_told (Unit {0}) owner t s past passes there c.read_range.result (λ _. rw same at (c.read_range.ensures.exact stands)) c.read_range.ensures.refused
     (λ _. c.read_range.ensures.sound stands)

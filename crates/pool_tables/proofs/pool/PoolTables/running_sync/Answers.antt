@@ -53,7 +53,7 @@ returns-clause-plan c =
     let steps : call_count run - run.done ≡ length (map address_of blocks) + other_calls (name_at c.args.self.now.changes 0) =
     omega (arith, ap vec_len new.blocks, ap other_calls (new.stages ∙ ap (stages_for c.args.self.now.guid c.args.group.0 c.args.self.now.geometry Even) (c.name-name.ensures ∙ ap (λ (o : Option Extents). option_map_or name_of o None) c.oldest.ensures)) ∙ stages-count c.args.self.now.guid c.args.group.0 c.args.self.now.geometry (name_at c.args.self.now.changes 0), new.done, length-map blocks address_of, planned.blocks.ok.0) in
     let taken = ap (λ (v : Vec PlannedBlock). map address_of v.items) new.blocks in
-    let plan : SyncPlan = new_plan c.args.moment (name_at c.args.self.now.changes 0) (header_for c.args.group.0 (pool_shown c.args.self.now).log) (map address_of blocks) planned.freed.items planned.root (contents_after_oldest c.args.self.now) (lengths_after planned.entries c.args.self.now.tree) in
+    let plan : SyncPlan = new_plan c.args.moment (name_at c.args.self.now.changes 0) (header_for c.args.group.0 (pool_shown c.args.self.now).log) (map address_of blocks) planned.freed.items planned.root (contents_after_oldest c.args.self.now) (lengths_after planned.entries c.args.self.now.synced.tree) in
     λ k. record plan { steps_left = steps k; taken = taken k; header = c.header_for-header.ensures.header k }
 
 pub returns-clause-header : goal.returns-clause-header

@@ -4,6 +4,8 @@ use Rattle.std.proofs.lemmas.Result.{err_from_is_err_and}
 use Rattle.base.specs.declared.names.Group.{Group}
 use Rattle.base.specs.formats.Chain.{Header}
 use Rattle.base.specs.steps.Shown.{SyncPlan}
+use Rattle.extents.specs.Synced.{HaveLengthsAfter}
+use Rattle.unsynced_extents.specs.Unsynced.{changes_at}
 use Rattle.groups.specs.CountedLines.{CountedLine, after_start}
 use Rattle.intent_log.specs.Kept.{header_fields, log_shown}
 use Rattle.space.specs.FreeSets.{FreeSpace}
@@ -16,7 +18,7 @@ use Rattle.pool_tables.specs.RunningUberblocks.{uberblock_with}
 use Rattle.pool_tables.specs.Unsynced.{KeepsUnsynced}
 use Rattle.pool_tables.proofs.Closes.{accounts_move_on}
 use Rattle.pool_tables.proofs.UnsyncedChanges.{moved_on}
-use Rattle.pool_tables.proofs.syncs.StartLeads.{none_counted, taken_anew}
+use Rattle.pool_tables.proofs.syncs.StartLeads.{none_counted, planned_lengths, taken_anew}
 use Rattle.pool_tables.proofs.syncs.StartedSyncs.{plan_refuses_start, plan_starts_sync, suspended_refuses_start, unready_refuses_start}
 use Rattle.pool_tables.proofs.HeldGroups.{counted_start, exact_moves, may_start, started}
 use Rattle.pool_tables.proofs.syncs.SameSyncs.{RunsIn, kept_sync}
@@ -80,6 +82,8 @@ invariant_of-self g c =
       sync_line = ap (λ (g : _). Some g.0) ens.group ∙ sym (ap (λ (l : CountedLine). l.line.syncing) now);
       tree_placed = pool.tree_placed;
       log_placed = pool.log_placed;
+      sync_lengths = λ x e. subst (λ (r : RunningSync). HaveLengthsAfter (changes_at pool.changes 0) r.entries pool.synced.tree) (kept_sync rs x e)
+          (rw ens.begins.entries (planned_lengths pool group may c.in_ok-planned.planned c.in_ok-planned.ensures.tree));
       sync_header = λ x e. subst (λ (r : RunningSync). KeepsHeader r.group.0 (header_fields r.header) (log_shown pool.log)) (kept_sync rs x e)
           (subst (λ (g : ℕ). KeepsHeader g (header_fields rs.header) (log_shown pool.log)) (ap (λ (g : Group). g.0) (sym ens.group)) ens.header);
       unsynced_kept = subst (λ (l : CountedLine). KeepsUnsynced l.line pool.log.records pool.synced pool.changes) (sym now)

@@ -3,12 +3,18 @@ use Rattle.std.specs.Prelude.{Bool, Option, Result, option_map}
 use Rattle.std.proofs.lemmas.Result.{err_from_is_err_and}
 use Rattle.base.specs.formats.Geometry.{AreBlocksOf, block_count}
 use Rattle.base.specs.kept.PlacedTrees.{ArePlaced}
-use Rattle.base.specs.steps.Shown.{SyncPlan}
+use Rattle.base.specs.steps.Shown.{SyncPlan, listed}
+use Rattle.base.proofs.steps.ListedLengths.{same_listed}
+use Rattle.contents.specs.declared.synced_tree.SyncedTree.{SyncedTree}
+use Rattle.extents.specs.Synced.{HaveLengthsAfter}
+use Rattle.tree_blocks.specs.SyncedTrees.{lengths_after}
+use Rattle.tree_blocks.specs.TreeObjects.{lengths_of}
+use Rattle.unsynced_extents.specs.Unsynced.{changes_at}
 use Rattle.tree_blocks.specs.Pointers.{pointers_of}
 use Rattle.pool_tables.specs.declared.pool.RunningSync.{RunningSync}
 use Rattle.base.specs.steps.Exact.{log_addresses}
 use Rattle.pool_tables.specs.Areas.{addresses_before}
-use Rattle.pool_tables.specs.Shows.{contents_after_oldest, plan_of, pool_shown, shown_after_tree}
+use Rattle.pool_tables.specs.Shows.{contents_after_oldest, plan_of, pool_shown, shown_given}
 use Rattle.intent_log.specs.Kept.{RunLog, header_fields, log_shown}
 use Rattle.intent_log.specs.RunLogs.{IsLogOf, KeepsHeader}
 use Rattle.intent_log.proofs.RunLogs.{synced_log}
@@ -19,7 +25,7 @@ use Rattle.pool_tables.proofs.UnsyncedChanges.{open_three, same_contents, synced
 use Rattle.base.specs.steps.Logs.{log_after_sync}
 use Rattle.records.specs.declared.record.Record as code
 use Rattle.std.proofs.lemmas.List.Elements.{All-filter}
-use Rattle.pool_tables.proofs.syncs.SameSyncs.{RunsIn, as_many, counted_still, kept_sync, left_as_before, more_left, one_left, one_less, refused_as, runs_on}
+use Rattle.pool_tables.proofs.syncs.SameSyncs.{RunsIn, as_many, counted_still, kept_sync, left_as_before, more_left, one_left, one_less, placed_after, refused_as, runs_on}
 use Rattle.base.specs.disk.Disk.{bytes_of}
 use Rattle.base.specs.declared.step.Reply.TheVariants as reply
 use Rattle.groups.specs.CountedLines.{CountedLine, after_sync, line_after_sync}
@@ -57,11 +63,18 @@ next-requires-clause-sized g c =
     let was = c.args.self.now.running c.in-Some.running c.in-Some.is in
     c.requires ∙ sym was.geometry
 
-pub finish_tree-run-requires-clause-placed : goal.finish_tree-run-requires-clause-placed
-finish_tree-run-requires-clause-placed g c =
+pub lay_oldest-requires-clause-lengths : goal.lay_oldest-requires-clause-lengths
+lay_oldest-requires-clause-lengths g c =
     let pool = c.args.self.now in
     let same = kept_sync c.in-Some-take.synced _ c.in-Some-take.ensures.value in
-    subst (λ (r : RunningSync). ∥ ArePlaced (block_count pool.geometry) (tree_after r pool.tree) ∥₁) (sym same) ((pool.running c.in-Some.running c.in-Some.is).placed)
+    subst (λ (r : RunningSync). HaveLengthsAfter (changes_at pool.changes 0) r.entries pool.synced.tree) (sym same) (pool.sync_lengths c.in-Some.running c.in-Some.is)
+
+pub invariant_of-self-in-Ok-Last-clause-tree_placed : goal.invariant_of-self-in-Ok-Last-clause-tree_placed
+invariant_of-self-in-Ok-Last-clause-tree_placed g c =
+    let pool = c.args.self.now in
+    let same = kept_sync c.in-Some-take.synced _ c.in-Some-take.ensures.value in
+    placed_after (block_count pool.geometry) _ _ c.lay_oldest.ensures.pointers
+    (subst (λ (r : RunningSync). ∥ ArePlaced (block_count pool.geometry) (tree_after r pool.synced.tree) ∥₁) (sym same) ((pool.running c.in-Some.running c.in-Some.is).placed))
 
 pub end_charges-requires-clause-next : goal.end_charges-requires-clause-next
 end_charges-requires-clause-next g c =
@@ -147,6 +160,11 @@ invariant_of-self-in-Ok-More-clause-running g c =
     let left = (more_left r.run c.next.new.self counts.same counts.done was.left (λ e. let other = sym c.in-Ok-More.field-0-is ∙ counts.last.1 e in cc)).1 in
     λ x e. subst (RunsIn pool) (kept_sync _ x e) (runs_on pool r c.next.new.self counts.same left was)
 
+pub invariant_of-self-in-Ok-More-clause-sync_lengths : goal.invariant_of-self-in-Ok-More-clause-sync_lengths
+invariant_of-self-in-Ok-More-clause-sync_lengths g c =
+    let pool = c.args.self.now in
+    λ x e. subst (λ (r : RunningSync). HaveLengthsAfter (changes_at pool.changes 0) r.entries pool.synced.tree) (kept_sync _ x e) (pool.sync_lengths c.in-Some.running c.in-Some.is)
+
 pub invariant_of-self-in-Ok-More-clause-sync_header : goal.invariant_of-self-in-Ok-More-clause-sync_header
 invariant_of-self-in-Ok-More-clause-sync_header g c =
     let pool = c.args.self.now in
@@ -166,6 +184,11 @@ invariant_of-self-in-Err-clause-running g c =
     let counts = c.in-Err.ensures.counts in
     let left = left_as_before r.run c.next.new.self counts.same counts.done was.left in
     λ x e. subst (RunsIn pool) (kept_sync _ x e) (runs_on pool r c.next.new.self counts.same left was)
+
+pub invariant_of-self-in-Err-clause-sync_lengths : goal.invariant_of-self-in-Err-clause-sync_lengths
+invariant_of-self-in-Err-clause-sync_lengths g c =
+    let pool = c.args.self.now in
+    λ x e. subst (λ (r : RunningSync). HaveLengthsAfter (changes_at pool.changes 0) r.entries pool.synced.tree) (kept_sync _ x e) (pool.sync_lengths c.in-Some.running c.in-Some.is)
 
 pub invariant_of-self-in-Err-clause-sync_header : goal.invariant_of-self-in-Err-clause-sync_header
 invariant_of-self-in-Err-clause-sync_header g c =
@@ -191,18 +214,21 @@ returns-in-Ok-clause-step g c =
     let contents = same_contents pool.changes pool.synced c.lay_oldest.new.synced c.lay_oldest.ensures.contents c.lay_oldest.new.changes c.lay_oldest.ensures.changes in
     step_synced s _ c.in-Some.running.group.0 c.in-Some-take.synced.group.0 _ c.in_ok-check_running.ensures syncing (was_planned pool c.in-Some.running is)
     (one_left c.in-Some.running.run c.next.new.self told.counts.same told.counts.done (told.counts.last.0 c.in-Ok-Last.field-0-is)) (ap (λ (r : RunningSync). r.group.0) same)
-    (c.finish_tree-run.ensures.shown ∙ rw (finished, c.take.ensures.after, c.end_charges.ensures.dirty, c.give_log.ensures.free, c.end_charges.ensures.free, blocks_of-remove)
-    (λ k. shown_after_tree (same k) pool.tree (record s {
+    (c.give_freed.ensures.shown ∙ rw (finished, c.take.ensures.after, c.end_charges.ensures.dirty, c.give_log.ensures.free, c.end_charges.ensures.free, blocks_of-remove)
+    (λ k. shown_given ((c.deref-in-Ok-Last.ensures.value ∙ ap (λ (r : RunningSync). r.freed.items) same) k) (record s {
       line = line_after_sync (same k).group.0 s.line;
       dirty = finite.remove s.dirty (same k).group.0;
       reserved = finite.remove s.reserved (same k).group.0;
       free = set.union s.free (set.from_list (addresses_before (header_fields (same k).header) (kept k)));
       contents = contents k;
       log = log k;
+      root = (c.lay_oldest.ensures.root ∙ ap (λ (r : RunningSync). r.root) same) k;
       synced_contents = c.lay_oldest.ensures.contents k;
+      lengths = (same_listed (lengths_of c.lay_oldest.new.synced.tree) (lengths_after c.in-Some-take.synced.entries pool.synced.tree) c.lay_oldest.ensures.lengths
+          ∙ ap (λ (r : RunningSync). listed (lengths_after r.entries pool.synced.tree)) same) k;
       sync = None;
     }))
-    ∙ (λ k. record (shown_synced c.in-Some.running.group.0 (plan_of pool.tree (contents_after_oldest pool) c.in-Some.running) s) {
+    ∙ (λ k. record (shown_synced c.in-Some.running.group.0 (plan_of pool.synced.tree (contents_after_oldest pool) c.in-Some.running) s) {
       free = union_both s.free c.in-Some.running.freed.items (addresses_before (header_fields c.in-Some.running.header) pool.log.kept) k;
     }))
 
@@ -243,10 +269,10 @@ returns-in-Ok-clause-leads g c = λ keeps.
     let same = kept_sync c.in-Some-take.synced _ c.in-Some-take.ensures.value in
     let sized = g.met.B.SectorDevice.sized keeps c.args.device.now ∙ c.requires in
     rw (c.keep_blocks.ensures.disk ∙ c.forget_all.ensures.disk) (leads_as (reply.Synced c.in-Some.running.group) (reply.Synced c.in-Some-take.synced.group) (pool_told pool (bytes_of (g.B.SectorDevice.disk c.args.device.now).now))
-    (pool_told c.finish_tree-run.new.self (bytes_of (g.B.SectorDevice.disk c.next.new.device).now)) (ap (λ (r : RunningSync). reply.Synced r.group) (sym same))
+    (pool_told c.give_freed.new.self (bytes_of (g.B.SectorDevice.disk c.next.new.device).now)) (ap (λ (r : RunningSync). reply.Synced r.group) (sym same))
     (synced_told pool c.in-Some.running c.next.new.self (g.B.SectorDevice.disk c.args.device.now) (g.B.SectorDevice.disk c.next.new.device) is told.counts.same sized was.geometry told.called.call told.called.next
-    c.finish_tree-run.new.self told.counts.done (told.counts.last.0 c.in-Ok-Last.field-0-is) (told.called.made keeps) (c.finish_tree-run.ensures.sync ∙ c.take.ensures.after)
-    (subst (λ (r : RunningSync). SamePlaces (pointers_of c.finish_tree-run.new.self.tree) (tree_after r pool.tree)) same c.finish_tree-run.ensures.pointers)))
+    c.give_freed.new.self told.counts.done (told.counts.last.0 c.in-Ok-Last.field-0-is) (told.called.made keeps) (c.give_freed.ensures.sync ∙ c.take.ensures.after)
+    (subst (λ (r : RunningSync). SamePlaces (pointers_of c.give_freed.new.self.synced.tree) (tree_after r pool.synced.tree)) same (subst (λ (t : SyncedTree). SamePlaces (pointers_of t.tree) (tree_after c.in-Some-take.synced pool.synced.tree)) (sym c.give_freed.ensures.synced) c.lay_oldest.ensures.pointers))))
 
 pub returns-in-Ok-More-clause-leads : goal.returns-in-Ok-More-clause-leads
 returns-in-Ok-More-clause-leads g c = λ keeps past later.
@@ -259,7 +285,7 @@ returns-in-Ok-More-clause-leads g c = λ keeps past later.
     let before = g.B.SectorDevice.disk c.args.device.now in
     let after = g.B.SectorDevice.disk c.next.new.device in
     let advances = advanced pool r c.next.new.self before after is told.counts.same sized size told.called.call told.called.next told.counts.done (told.called.made keeps) in
-    (made_by (tree_after r pool.tree) c.next.new.self, record { before = made_by (tree_after r pool.tree) r.run; running = was_running pool r is; group = r.group.0; syncing = was_syncing pool r is; advances = advances }, refl, refl)
+    (made_by (tree_after r pool.synced.tree) c.next.new.self, record { before = made_by (tree_after r pool.synced.tree) r.run; running = was_running pool r is; group = r.group.0; syncing = was_syncing pool r is; advances = advances }, refl, refl)
 
 pub returns-in-Err-clause-leads : goal.returns-in-Err-clause-leads
 returns-in-Err-clause-leads g c = λ keeps past later.
@@ -283,7 +309,7 @@ returns-in-Ok-clause-phases g c = λ keeps.
       c.in-Some.running.run,
       c.next.new.self,
       ap (λ (o : Option RunningSync). option_map (λ (r : RunningSync). r.run) o) c.in-Some.is,
-      ap (λ (o : Option RunningSync). option_map (λ (r : RunningSync). r.run) o) (c.finish_tree-run.ensures.sync ∙ c.take.ensures.after),
+      ap (λ (o : Option RunningSync). option_map (λ (r : RunningSync). r.run) o) (c.give_freed.ensures.sync ∙ c.take.ensures.after),
       told.counts.last.0 c.in-Ok-Last.field-0-is,
       record { running = c.in_ok-check_running.ensures; same = told.counts.same; written = rw (c.keep_blocks.ensures.disk ∙ c.forget_all.ensures.disk) (told.written keeps); phases = rw (c.keep_blocks.ensures.disk ∙ c.forget_all.ensures.disk) (told.phases keeps) },
     )

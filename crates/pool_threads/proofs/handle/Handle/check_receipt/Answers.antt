@@ -3,7 +3,7 @@ use Rattle.pool_core.specs.States.{shown}
 use Rattle.pool_tables.specs.Receipts.{ChecksReceipt}
 use Rattle.pool_threads.proofs.Looked.{found_by, looked_by, looked_one}
 use Rattle.pool_threads.specs.Views.{Explains, GrowsTo, grows_same}
-use Rattle.pool_threads.specs.Waits.{FindsReceipt}
+use Rattle.pool_threads.specs.Waits.{IsLookTurn}
 use Rattle.word_lock.specs.Seats.{lock_table, seen, turns}
 use Rattle.word_lock.specs.Turns.{turn}
 use Rattle.std.proofs.Common.{◌++◌, ◌∷◌, []}
@@ -25,4 +25,5 @@ returns g c =
     let r = c.release.ensures in
     let looked = looked_by _ _ _ _ (r.same.0 ∙ a.ensures.same.0, refl) a.ensures.held.1 a.ensures.held.2 a.ensures.held.5 (r.seen ∙ a.ensures.view) (r.turn.0 ∙ ap (λ w. turns a.result.seat.now ++ turn (seen a.result.seat.now) w ∷ []) (sym r.seen)) (r.turn.1.0 ∙ a.ensures.held.4.0, r.turn.1.1 ∙ a.ensures.held.4.1) in
     let checked = subst (λ p. ChecksReceipt c.args.receipt c.check_receipt-checked.result (shown p)) c.deref.ensures c.check_receipt-checked.ensures in
-    looked_one looked (subst (λ v. FindsReceipt c.args.receipt c.check_receipt-checked.result (turn v v)) (sym (r.seen ∙ a.ensures.view)) (found_by c.args.receipt c.check_receipt-checked.result a.result.held.value.value (seen a.result.seat.now) a.ensures.held.3 checked))
+    let left = seen a.result.seat.now in
+    looked_one looked (subst (λ v. IsLookTurn c.args.receipt c.check_receipt-checked.result (turn v v)) (sym (r.seen ∙ a.ensures.view)) (refl, found_by c.args.receipt c.check_receipt-checked.result a.result.held.value.value (turn left left) a.ensures.held.3 checked))

@@ -1,4 +1,4 @@
-use Rattle.std.proofs.Common.{◌≡◌, ◌<◌, ◌/◌, ◌∙◌, ap, length, get_or, set, true, false, arith}
+use Rattle.std.proofs.Common.{◌≡◌, ◌<◌, ◌/◌, ◌∙◌, ap, length, get_or, true, false, arith}
 use Rattle.std.proofs.lemmas.List.{get_or_read, length-set}
 use Rattle.space.proofs.Regions.{counted_cleared, has_one}
 use Rattle.space.proofs.SetFlags.{set_within}

@@ -1,4 +1,4 @@
-use Rattle.std.proofs.Common.{◌≡◌, ◌<◌, ◌/◌, ◌∙◌, ap, length, get_or, set, true, false, arith}
+use Rattle.std.proofs.Common.{◌≡◌, ◌<◌, ◌/◌, ◌∙◌, ap, length, get_or, true, arith}
 use Rattle.std.proofs.lemmas.List.{get_or_read, length-set}
 use Rattle.space.proofs.Regions.{counted_set, fits_one}
 use Rattle.space.proofs.counted_flags.CountedFlags.set.Goals as goal

@@ -1,4 +1,4 @@
-use Rattle.std.proofs.Common.{◌∙◌, sym, ap, length, arith}
+use Rattle.std.proofs.Common.{sym, arith}
 use Rattle.space.proofs.Counts.{len-all}
 use Rattle.space.proofs.Flags.{all_free}
 use Rattle.space.proofs.Hints.{hint_of_all}

@@ -6,6 +6,7 @@ use Rattle.base.specs.formats.Limits.{object_count}
 use Rattle.base.specs.declared.names.ObjectId.{ObjectId}
 use Rattle.tree_blocks.specs.declared.tree.ObjectEntry.{ObjectEntry}
 use Rattle.tree_blocks.specs.Lengths.{length_in}
+use Rattle.tree_blocks.specs.TreeObjects.{objects_of}
 use Rattle.tree_blocks.proofs.ListedObjects.{listed_at, listed_below, listed_below-all, listed_next}
 use Rattle.tree_blocks.proofs.tree.Tree.list_objects.Goals as goal
 use Rattle.tree_blocks.proofs.tree.Tree.list_objects.Goals.{in-Some+in_ok-push, in_default}
@@ -16,22 +17,23 @@ length_at maps n m low is = sym (ap (λ (o : Option ObjectEntry). option_map_or 
 
 pub loop-number-init : goal.loop-number-init
 unfolding listed_below
-loop-number-init c = λ objects within lengths. c.new-list.ensures.items
+loop-number-init c = c.new-list.ensures.items
 
 pub loop-number-preserved : goal.loop-number-preserved
-loop-number-preserved c = λ objects within lengths.
+loop-number-preserved c =
     let tree = c.args.self.now in
+    let objects = objects_of tree in
     let n : ℕ = c.loop-number.number in
     let low : n < length tree.entries.items = omega (arith, c.loop-number-test.true, tree.entries.ok.0, tree.all_objects) in
-    let told = length_at tree.entries.items n c.index.result.now low c.index.ensures ∙ lengths n c.loop-number-test.true in
-    let so_far = c.loop-number.invariant objects within lengths in
+    let told = length_at tree.entries.items n c.index.result.now low c.index.ensures ∙ tree.sized n in
     elim c.match-index.branch [
-      | in-Some+in_ok-push w ↦ rw w.list-is (w.in_ok-push.ensures.items ∙ ap (λ (l : List (ObjectId × ℕ)). l ++ listed_at n (Some w.in-Some.length)) so_far
+      | in-Some+in_ok-push w ↦ rw w.list-is (w.in_ok-push.ensures.items ∙ ap (λ (l : List (ObjectId × ℕ)). l ++ listed_at n (Some w.in-Some.length)) c.loop-number.invariant
           ∙ listed_next objects n (Some w.in-Some.length) (sym w.in-Some.is ∙ told))
-      | in_default w ↦ rw w.list-is (so_far ∙ sym (append-nil (listed_below objects n)) ∙ listed_next objects n None (sym w.in_default.is ∙ told))
+      | in_default w ↦ rw w.list-is (c.loop-number.invariant ∙ sym (append-nil (listed_below objects n)) ∙ listed_next objects n None (sym w.in_default.is ∙ told))
     ]
 
 pub returns : goal.returns
-returns c = λ objects within lengths.
+returns c = λ within.
+    let objects = objects_of c.args.self.now in
     let last : c.loop-number.number ≡ object_count = omega arith in
-    c.loop-number.invariant objects within lengths ∙ ap (listed_below objects) last ∙ listed_below-all objects within
+    c.loop-number.invariant ∙ ap (listed_below objects) last ∙ listed_below-all objects within

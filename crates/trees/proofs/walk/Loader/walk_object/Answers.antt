@@ -10,7 +10,7 @@ use Rattle.tree_blocks.specs.Pointers.{ObjectPointers, told_record}
 use Rattle.tree_blocks.proofs.EntryForms.{long_entry, short_entry}
 use Rattle.tree_blocks.proofs.ToldStrips.{entry-long, entry-short, first-told, long-by_length, short-by_length}
 use Rattle.trees.specs.FreeBlocks.{ObjectNames, StripNames, TakesNamed}
-use Rattle.contents.specs.Bytes.{AreBytes}
+use Rattle.tree_blocks.specs.Bytes.{AreBytes}
 use Rattle.trees.specs.Loading.{IsLoadedObject, IsLoadedStrip}
 use Rattle.trees.specs.Noted.{kept_entry}
 use Rattle.trees.proofs.LoadedObjects.{long_loaded}

@@ -6,7 +6,7 @@ use Rattle.base.specs.formats.Fields.{pointer_in}
 use Rattle.base.specs.tree.Places.{walk_index_of_object}
 use Rattle.trees.specs.DamageLists.{AddsDamages}
 use Rattle.trees.specs.FreeBlocks.{StripsName, TakesNamed}
-use Rattle.contents.specs.Bytes.{AreBytes}
+use Rattle.tree_blocks.specs.Bytes.{AreBytes}
 use Rattle.trees.specs.Loading.{AreLoadedStrips, HasZeroRecord}
 use Rattle.object_maps.specs.BlockReads.{Shows}
 use Rattle.trees.specs.Noted.{IsNoted}

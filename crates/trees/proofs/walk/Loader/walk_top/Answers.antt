@@ -7,7 +7,7 @@ use Rattle.base.specs.tree.Places.{walk_index_of_object}
 use Rattle.base.specs.tree.Places.Place.{Top}
 use Rattle.base.specs.tree.Tree.{OpensAt}
 use Rattle.tree_blocks.specs.Forms.{AreStripForms}
-use Rattle.contents.specs.Bytes.{AreBytes}
+use Rattle.tree_blocks.specs.Bytes.{AreBytes}
 use Rattle.tree_blocks.specs.Pointers.{strip_in}
 use Rattle.trees.specs.SoundBlocks.{IsFormed}
 use Rattle.trees.proofs.DamageLists.{no_damages}

@@ -1,0 +1,2 @@
+pub mod FirstOnes
+pub mod CommandFronts

@@ -1,5 +1,0 @@
-use Rattle.std.specs.Prelude.{[]}
-use Rattle.contents.proofs.told_bytes.no_bytes.Given as goal
-
-abbrev pub ghost-of : goal.ghost-of
-ghost-of a = []

@@ -1,5 +1,0 @@
-use Rattle.pool_threads_clients.proofs.FetchClients.{takes_all_steps}
-use Rattle.pool_threads_clients.proofs.fetches.a_fetch_locks_reads_and_unlocks.Goals as goal
-
-pub returns : goal.returns
-returns g c = takes_all_steps c.args.owner c.args.object c.args.range c.args.handle.now c.fetch.new.self c.fetch.result c.fetch.ensures.made
