@@ -22,7 +22,7 @@ TESTS = "engine_checks"
 PROGRAMS = {
     "durable_load": "durable_load: anyhow topzerad loads rand_pcg",
     TESTS: f"{TESTS} tests_may=Threads+Wait: base device_model file_devices hash_lanes checked_blocks uberblocks"
-    " records intent_log contents log_replay import_replay inspections word_lock pool_threads loads",
+    " records intent_log tree_blocks contents log_replay import_replay inspections word_lock pool_threads loads",
     "flush_counts": "flush_counts may_wait=9: anyhow topzerad",
     "hash_blocks": "hash_blocks: anyhow sha2",
     "idle_loops": "idle_loops: anyhow topzerad",
