@@ -15,7 +15,8 @@ use Rattle.base.specs.steps.Explains.{IsLeftBy}
 use Rattle.base.specs.steps.Runs.{reply_of}
 use Rattle.command_fronts.specs.CommandFronts.{Ended, HasMade, LeavesFirst, LeavesFirstOfPut, PutsFollowCommands, PutsSurviveInOrder, RemovalsFollowCommands, RemovalsSurviveInOrder}
 use Rattle.command_fronts.proofs.FirstOnes.{Does, does_nothing, does_on, does_same, does_then_none, does_transact, leaves_first}
-use Rattle.commands.specs.Committed.{MakesFirst, PutsAsFound, PutsBy, PutsFrom, PutsIfRoom, PutsOn, RemovesFrom, RemovesWith, SyncsAfter, SyncsIfMade, command_owner, default_dirty_max}
+use Rattle.commands.specs.Committed.{PutsAsFound, PutsBy, PutsFrom, PutsIfRoom, PutsOn, RemovesFrom, RemovesWith, SyncsAfter, SyncsIfMade, default_dirty_max}
+use Rattle.running_pools.specs.Commits.{MakesFirst, command_owner}
 use Rattle.commands.specs.PutRoom.{lacks_room}
 use Rattle.commands.specs.Puts.{IsStartFor, put_transactions, start_of}
 use Rattle.commands.proofs.Committed.{may_start}

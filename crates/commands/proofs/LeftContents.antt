@@ -34,20 +34,22 @@ use Rattle.pool_threads.specs.Views.{SeenPool}
 use Rattle.pool_threads.specs.Waits.{SyncsPool}
 use Rattle.pool_threads.proofs.AloneSteps.{step_at_once}
 use Rattle.pool_threads.proofs.Along.{GoesAlong, along_made, along_on, along_same}
-use Rattle.durable_answers.proofs.Along.{along_syncs}
+use Rattle.running_pools.proofs.Along.{along_syncs}
 use Rattle.running_pools.specs.LeftDevices.{ClosesAfter, HoldsContents, StillHolds}
 use Rattle.running_pools.proofs.Adds.{Adds, AddsAlone, alone_on, alone_same, made_alone, past_seen, same_entries, synced_alone, transacted_alone}
 use Rattle.running_pools.proofs.Cuts.{Preserves, kept_by_all}
 use Rattle.running_pools.proofs.LeftDevices.{alone_keeps, alone_leaves, found_so, only_number, only_was_of}
 use Rattle.running_pools.proofs.Sounds.{AllAcknowledged, IsSound, all_acknowledged, durable_after, sound_on}
-use Rattle.commands.specs.Committed.{MakesFirst, PutsAndLeaves, PutsAsFound, PutsBy, PutsFrom, PutsIfRoom, RemovesAndLeaves, RemovesFrom, SyncsAfter, SyncsIfMade, command_owner, result_after}
+use Rattle.commands.specs.Committed.{PutsAndLeaves, PutsAsFound, PutsBy, PutsFrom, PutsIfRoom, RemovesAndLeaves, RemovesFrom, SyncsAfter, SyncsIfMade, result_after}
+use Rattle.running_pools.specs.Commits.{MakesFirst, command_owner}
 use Rattle.commands.specs.LeftContents.{HasPut, HasRemoved, KeepsOthers}
 use Rattle.commands.specs.PutRoom.{lacks_room}
 use Rattle.commands.specs.Puts.{IsStartFor, first_byte, piece_ops, put_transactions, start_of, start_ops, write_ops}
 use Rattle.commands.specs.declared.changes.Put.{Put}
 use Rattle.commands.specs.declared.changes.Start.{Start}
 use Rattle.commands.specs.declared.changes.Start.TheVariants.{Creates, Empties, Keeps}
-use Rattle.commands.proofs.Committed.{all_counted, all_stand, along_first, may_start, sound_first}
+use Rattle.commands.proofs.Committed.{all_counted, all_stand, may_start}
+use Rattle.running_pools.proofs.Commits.{along_first, sound_first}
 use Rattle.commands.proofs.Pieces.{piece_count, same_put, transactions_from}
 use Rattle.commands.proofs.PutBytes.{puts_leave_bytes}
 

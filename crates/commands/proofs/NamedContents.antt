@@ -9,7 +9,8 @@ use Rattle.base.specs.history.History.{apply_all}
 use Rattle.base.specs.history.Sequences.{in_turn}
 use Rattle.base.proofs.common.Sequences.{parted}
 use Rattle.commands.specs.Puts.{overwritten, write_ops}
-use Rattle.commands.proofs.PutBytes.{LeavesOthers, changed_there, made, none_left, object, one, others_on, write_leaves}
+use Rattle.commands.proofs.PutBytes.{write_leaves}
+use Rattle.running_pools.proofs.OneObject.{LeavesOthers, changed_there, made, none_left, object, one, others_on}
 use Rattle.object_names.specs.Laws.{IsRenamed, IsUnused, headed, with_slot}
 use Rattle.object_names.specs.NameTables.{IsNameTable}
 use Rattle.object_names.specs.Names.{IsName}

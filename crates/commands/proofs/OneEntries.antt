@@ -13,14 +13,15 @@ use Rattle.base.specs.declared.operation.Op.TheVariants.{Create, Remove, SetLeng
 use Rattle.base.specs.history.History.{Entry}
 use Rattle.base.specs.steps.Seen.{IsKnownDurable}
 use Rattle.base.specs.steps.Steps.{State}
-use Rattle.commands.specs.Committed.{AreNewEntries, SyncsAfter, command_owner}
+use Rattle.commands.specs.Committed.{AreNewEntries, SyncsAfter}
+use Rattle.running_pools.specs.Commits.{command_owner}
 use Rattle.commands.specs.Puts.{IsStartFor, put_transactions}
 use Rattle.commands.specs.declared.changes.Put.{Put}
 use Rattle.commands.specs.declared.changes.Start.{Start}
 use Rattle.commands.specs.declared.changes.Start.TheVariants.{Creates, Empties, Keeps}
 use Rattle.commands.proofs.Committed.{all_stand, entered_since, one_and_synced, put_enters}
 use Rattle.device_model.specs.declared.device.SectorDevice.{Ghosts}
-use Rattle.durable_answers.proofs.Along.{along_looked}
+use Rattle.running_pools.proofs.Along.{along_looked}
 use Rattle.object_names.specs.Laws.{IsUnused}
 use Rattle.object_names.specs.NameTables.{IsNameTable, name_at}
 use Rattle.object_names.specs.Names.{IsName}

@@ -13,7 +13,7 @@ use Rattle.device_model.specs.declared.device.SectorDevice.{Ghosts}
 use Rattle.pool_threads.specs.declared.handle.Handle.{Handle}
 use Rattle.pool_threads.specs.LongWrites.{TransactsInOrder, WritesInPieces, writes_from, writes_of}
 use Rattle.pool_threads.specs.Transacts.{TransactsOrLacks}
-use Rattle.commands.specs.Committed.{MakesFirst, command_owner}
+use Rattle.running_pools.specs.Commits.{MakesFirst, command_owner}
 use Rattle.commands.specs.Puts.{first_byte, is_target, piece_ops, put_transactions, rest_transactions, write_ops}
 use Rattle.commands.specs.declared.changes.Start.{Start}
 use Rattle.commands.specs.declared.changes.Start.TheVariants.{Creates, Empties, Keeps}

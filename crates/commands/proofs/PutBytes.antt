@@ -1,20 +1,19 @@
 -- The transactions of a put leave the object with its bytes, and each other object as it was.
 use Rattle.std.proofs.Common.{◌≡◌, ◌≢◌, ◌+◌, ◌-◌, ◌/◌, ◌++◌, ◌∷◌, [], ℕ, zero, suc, List, Option, Some, None, Ok, ap, arith, append_assoc, drop, length, length-append, length-drop, max, refl, replicate, subst, sym, take, ◌∙◌}
-use Rattle.std.specs.Prelude.{IsSome, Result}
+use Rattle.std.specs.Prelude.{IsSome}
 use Rattle.std.specs.FinMap as map
 use Rattle.std.proofs.Math.Seq.{drop-append-add, drop-nil, take-append_seam}
 use Rattle.std.proofs.lemmas.Bool.{false≢true}
 use Rattle.std.proofs.lemmas.List.{append-nil, drop-drop, nil_from_length, take-append-drop}
-use Rattle.base.specs.declared.error.PoolError.{PoolError}
 use Rattle.base.specs.declared.names.ObjectId.{ObjectId}
 use Rattle.base.specs.declared.operation.Op.{Op}
 use Rattle.base.specs.declared.operation.Op.TheVariants.{Create, SetLength, Write}
-use Rattle.base.specs.history.Contents.{Contents, apply, at_object, bytes_after_write, changed, created, resize}
+use Rattle.base.specs.history.Contents.{Contents, apply, bytes_after_write, changed, created, resize}
 use Rattle.base.specs.history.History.{apply_all}
 use Rattle.base.specs.history.Sequences.{in_turn}
 use Rattle.base.proofs.common.Sequences.{parted}
-use Rattle.base.proofs.history.Objects.{get-stored_other, get-stored_same, reached}
 use Rattle.base.proofs.history.Writes.{length-resize}
+use Rattle.running_pools.proofs.OneObject.{LeavesOthers, changed_there, made, none_left, object, one, others_on, others_same}
 use Rattle.commands.specs.Puts.{IsStartFor, bytes_put, first_byte, overwritten, put_transactions, start_ops, write_ops}
 use Rattle.commands.specs.declared.changes.Start.{Start}
 use Rattle.commands.specs.declared.changes.Start.TheVariants.{Creates, Empties, Keeps}
@@ -56,37 +55,6 @@ overwritten_on at (b ∷ p) (c ∷ q) old = written_on at (b ∷ p) (c ∷ q) ol
 overwritten_none : (bytes : List ℕ) → overwritten 0 bytes [] ≡ bytes
 overwritten_none [] = refl
 overwritten_none (b ∷ bytes) = ap (λ (l : List ℕ). (b ∷ bytes) ++ l) (drop-nil (0 + length (b ∷ bytes))) ∙ append-nil (b ∷ bytes)
-
--- the object of a number
-abbrev pub object : Contents → ℕ → Option (List ℕ)
-object c n = map.get c.objects n
-
--- each other object is as it was
-abbrev pub LeavesOthers : ℕ → Contents → Contents → Type 0
-LeavesOthers n c d = (other : ℕ) → other ≢ n → object d other ≡ object c other
-
-pub others_on : (n : ℕ) (a b c : Contents) → LeavesOthers n a b → LeavesOthers n b c → LeavesOthers n a c
-others_on n a b c first later = λ other ne. later other ne ∙ first other ne
-
-pub others_same : (n : ℕ) (c d : Contents) → c ≡ d → LeavesOthers n c d
-others_same n c d same = λ other ne. ap (λ (x : Contents). object x other) (sym same)
-
--- what an operation on the object makes of it
-pub one : (n : ℕ) (f : Option (List ℕ) → Result (Option (List ℕ)) PoolError) (c d : Contents) → at_object n f c ≡ Ok d
-    → (o : Option (List ℕ)) × (f (object c n) ≡ Ok o) × (object d n ≡ o) × LeavesOthers n c d
-one n f c d h =
-    let r = reached n f c d h in (
-      r.0,
-      r.1,
-      ap (λ (x : Contents). object x n) (sym r.2) ∙ get-stored_same c.objects n r.0,
-      λ other ne. ap (λ (x : Contents). object x other) (sym r.2) ∙ get-stored_other c.objects n r.0 other ne,
-    )
-
-pub changed_there : (f : List ℕ → List ℕ) (before o : Option (List ℕ)) (old : List ℕ) → before ≡ Some old → changed f before ≡ Ok o → o ≡ Some (f old)
-changed_there f before o old is h = let given : changed f (Some old) ≡ Ok o = subst (λ (b : Option (List ℕ)). changed f b ≡ Ok o) is h in cc
-
-pub none_left : (c d : Contents) → in_turn apply [] c ≡ Ok d → c ≡ d
-none_left c d h = cc
 
 no_more : (c d : Contents) → in_turn apply_all [] c ≡ Ok d → c ≡ d
 no_more c d h = cc
@@ -136,10 +104,6 @@ StartsWith Keeps before old = before ≡ Some old
 found : (o : Option (List ℕ)) → IsSome o → (old : List ℕ) × (o ≡ Some old)
 found None some = absurd (false≢true some)
 found (Some old) some = (old, refl)
-
-pub made : (before o : Option (List ℕ)) → created before ≡ Ok o → (before ≡ None) × (o ≡ Some [])
-made None o h = (refl, cc)
-made (Some old) o h = cc
 
 emptied : (before o : Option (List ℕ)) → changed (resize 0) before ≡ Ok o → o ≡ Some []
 emptied None o h = cc

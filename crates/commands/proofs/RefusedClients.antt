@@ -24,7 +24,8 @@ use Rattle.pool_threads.specs.Transacts.{TransactsOrLacks}
 use Rattle.pool_threads.specs.Waits.{SyncsPool}
 use Rattle.pool_threads.specs.declared.handle.Handle.{Handle}
 use Rattle.pool_threads.specs.declared.shared.Shared.{Shared}
-use Rattle.commands.specs.Committed.{IsNotOpened, IsOpenedOn, MakesFirst, PutsAsFound, PutsIfRoom, PutsInto, PutsOrFails, RefusesPut, RefusesRemoval, RemovesFrom, SyncsAfter, SyncsIfMade, command_owner, result_after}
+use Rattle.commands.specs.Committed.{IsNotOpened, IsOpenedOn, PutsAsFound, PutsIfRoom, PutsInto, PutsOrFails, RefusesPut, RefusesRemoval, RemovesFrom, SyncsAfter, SyncsIfMade, result_after}
+use Rattle.running_pools.specs.Commits.{MakesFirst, command_owner}
 use Rattle.commands.specs.PutRoom.{freed_blocks, lacks_room, length_found}
 use Rattle.commands.specs.Puts.{put_transactions, start_of}
 use Rattle.commands.specs.declared.changes.Put.{Put}

@@ -9,7 +9,7 @@ use Rattle.base.specs.declared.operation.Op.{Op}
 use Rattle.base.specs.declared.step.Reply.TheVariants as reply
 use Rattle.base.specs.declared.step.Step.TheVariants as step
 use Rattle.base.specs.steps.Runs.{reply_of}
-use Rattle.commands.specs.Committed.{command_owner}
+use Rattle.running_pools.specs.Commits.{command_owner}
 use Rattle.commands.specs.declared.changes.Put.{Put}
 use Rattle.device_model.specs.declared.device.SectorDevice.{Ghosts}
 use Rattle.pool_threads.specs.Answers.{Makes}

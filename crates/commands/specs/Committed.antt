@@ -1,13 +1,11 @@
 -- What a command's handle commits, one transaction after another, and what its history then has of it.
-use Rattle.std.specs.Prelude.{ℕ, zero, suc, false, true, ◌≡◌, ◌≢◌, ◌≤◌, ◌⊎◌, ◌*◌, Bool, IsTrue, List, [], ◌∷◌, Ok, Option, Err, Result, Some, is_ok, length, min, slice_get}
+use Rattle.std.specs.Prelude.{ℕ, suc, false, true, ◌≡◌, ◌≢◌, ◌≤◌, ◌⊎◌, ◌*◌, Bool, IsTrue, List, [], ◌∷◌, Ok, Option, Err, Result, Some, is_ok, length, min, slice_get}
 use Rattle.std.specs.Io.KnownBytes.{Appends}
 use Rattle.base.specs.kept.Imports.{is_dirty_max_allowed}
 use Rattle.base.specs.declared.error.PoolError.{PoolError}
 use Rattle.base.specs.declared.error.PoolError.TheVariants.{BadGeometry, BadRange, NoSpace}
 use Rattle.base.specs.declared.names.Group.{Group}
 use Rattle.base.specs.declared.names.ObjectId.{ObjectId}
-use Rattle.base.specs.declared.names.Owner.{Owner}
-use Rattle.base.specs.declared.names.Receipt.{Receipt}
 use Rattle.base.specs.declared.status.Status.{Status}
 use Rattle.base.specs.declared.operation.Op.{Op}
 use Rattle.base.specs.declared.operation.Op.TheVariants.{Remove}
@@ -26,8 +24,8 @@ use Rattle.pool_threads.specs.declared.shared.Shared.{Shared}
 use Rattle.pool_threads.specs.Answers.{Makes, Sees}
 use Rattle.pool_threads.specs.Handles.{IsLeftBehind, IsLeftByOpen, LeavesSame, OpensBehind, opening_view}
 use Rattle.pool_threads.specs.LongWrites.{piece_size}
-use Rattle.pool_threads.specs.Transacts.{TransactsOrLacks}
 use Rattle.pool_threads.specs.Waits.{SyncsPool}
+use Rattle.running_pools.specs.Commits.{MakesFirst}
 use Rattle.running_pools.specs.LeftDevices.{IsOnlyHandle}
 use Rattle.read_commands.specs.Failures.{IsFailureFor}
 use Rattle.commands.specs.PutRoom.{lacks_room}
@@ -36,10 +34,6 @@ use Rattle.read_commands.specs.declared.failure.Failure.{Failure}
 use Rattle.read_commands.specs.declared.failure.Failure.TheVariants as failure
 use Rattle.commands.specs.declared.changes.Put.{Put}
 use Rattle.commands.specs.declared.changes.Start.{Start}
-
--- the owner of a command's transactions
-abbrev pub command_owner : Owner
-command_owner = record { 0 = 0 }
 
 -- `DEFAULT_DIRTY_MAX`, with which a command opens its pool
 abbrev pub default_dirty_max : ℕ
@@ -65,13 +59,6 @@ result_after (Ok done) (Err e) = Err e
 result_after made synced = made
 
 module _ {Dev : Type 0} {G : Ghosts Dev} where
-  -- The handle made these transactions in order, up to the first that was refused: so many were committed, with this
-  -- result. It did no more.
-  abbrev pub MakesFirst : List (List Op) → ℕ → Result (Unit {0}) PoolError → Handle Dev G → Handle Dev G → Type 0
-  MakesFirst [] count result old new = (count ≡ 0) × (result ≡ Ok tt) × (new ≡ old)
-  MakesFirst (ops ∷ rest) zero result old new = (e : PoolError) × (result ≡ Err e) × TransactsOrLacks command_owner ops (Err e) old new
-  MakesFirst (ops ∷ rest) (suc count) result old new = (receipt : Receipt) × (next : Handle Dev G) × TransactsOrLacks command_owner ops (Ok receipt) old next × MakesFirst rest count result next new
-
   -- If none was committed the handle did no more. Else it synced the pool.
   abbrev pub SyncsAfter : Put → Result (Unit {0}) PoolError → Result (Unit {0}) PoolError → Handle Dev G → Handle Dev G → Type 0
   SyncsAfter put made result old new = ((put.transactions ≡ 0) × (result ≡ made) × (new ≡ old))

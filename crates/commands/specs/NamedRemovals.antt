@@ -6,7 +6,8 @@ use Rattle.base.specs.declared.names.ObjectId.{ObjectId}
 use Rattle.base.specs.declared.step.Reply.TheVariants as reply
 use Rattle.base.specs.declared.step.Step.TheVariants as step
 use Rattle.base.specs.steps.Runs.{reply_of}
-use Rattle.commands.specs.Committed.{MakesFirst, SyncsIfMade}
+use Rattle.commands.specs.Committed.{SyncsIfMade}
+use Rattle.running_pools.specs.Commits.{MakesFirst}
 use Rattle.device_model.specs.declared.device.SectorDevice.{Ghosts}
 use Rattle.commands.specs.NamedOps.{removal_ops}
 use Rattle.read_commands.specs.NamedObjects.{IsUnknown}

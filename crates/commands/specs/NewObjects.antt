@@ -6,7 +6,8 @@ use Rattle.base.specs.declared.names.ObjectId.{ObjectId}
 use Rattle.base.specs.declared.status.Status.{Status}
 use Rattle.base.specs.declared.step.Reply.TheVariants as reply
 use Rattle.base.specs.declared.step.Step.TheVariants as step
-use Rattle.commands.specs.Committed.{MakesFirst, SyncsAfter, nothing_put}
+use Rattle.commands.specs.Committed.{SyncsAfter, nothing_put}
+use Rattle.running_pools.specs.Commits.{MakesFirst}
 use Rattle.commands.specs.PutRoom.{lacks_room}
 use Rattle.commands.specs.declared.changes.Put.{Put}
 use Rattle.commands.specs.declared.changes.Start.TheVariants.{Creates}

@@ -1,7 +1,7 @@
 -- How a handle reads the table of names of its pool.
 use Rattle.std.specs.Prelude.{ℕ, List, Option, Result}
 use Rattle.base.specs.declared.error.PoolError.{PoolError}
-use Rattle.commands.specs.Committed.{command_owner}
+use Rattle.running_pools.specs.Commits.{command_owner}
 use Rattle.device_model.specs.declared.device.SectorDevice.{Ghosts}
 use Rattle.commands.specs.NamedOps.{table_object}
 use Rattle.read_commands.specs.NamedTables.{IsTableRead, table_range}

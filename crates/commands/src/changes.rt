@@ -11,7 +11,8 @@ ghost use Rattle.std.specs.Prelude.{◌≡◌, ◌≢◌, ◌≤◌, ◌<◌, �
 ghost use Rattle.base.specs.declared.operation.Op.TheVariants.{Remove};
 ghost use Rattle.base.specs.formats.Limits.{max_length};
 ghost use Rattle.running_pools.specs.LeftDevices.{HoldsContents, IsOnlyHandle, StillHolds};
-ghost use Rattle.commands.specs.Committed.{MakesFirst, PutsAll, PutsAndLeaves, PutsAndPrints, PutsBy, PutsOrFails, RefusesPut, RefusesRemoval, RemovesAndLeaves, RemovesOn, RemovesOrFails, command_owner, nothing_put, result_after};
+ghost use Rattle.commands.specs.Committed.{PutsAll, PutsAndLeaves, PutsAndPrints, PutsBy, PutsOrFails, RefusesPut, RefusesRemoval, RemovesAndLeaves, RemovesOn, RemovesOrFails, nothing_put, result_after};
+ghost use Rattle.running_pools.specs.Commits.{MakesFirst, command_owner};
 ghost use Rattle.commands.specs.LeftContents.{HasPut, HasRemoved, KeepsOthers, LeavesDevice};
 ghost use Rattle.commands.specs.Puts.{bad_number_of, first_byte, is_target, piece_ops, put_line, put_transactions, removed_line, rest_transactions, start_of};
 ghost use Rattle.pool_threads.specs.LongWrites.{piece_size};
@@ -21,7 +22,7 @@ ghost use Rattle.read_commands.specs.Failures.{failure_status};
 
 use crate::put_room::lacks_room;
 use base::{
-    Bytes, DEFAULT_DIRTY_MAX, Group, MAX_LENGTH, OBJECT_COUNT, ObjectId, Op, Ops, Owner, PoolError,
+    Bytes, DEFAULT_DIRTY_MAX, Group, MAX_LENGTH, OBJECT_COUNT, ObjectId, Op, Ops, PoolError,
     Receipt,
 };
 use command_arguments::{PutArguments, RemoveArguments, Verbosity};
@@ -29,14 +30,11 @@ use device_model::SectorDevice;
 use file_devices::FileRefusal;
 use pool_threads::{Handle, LastSeen, OwnedPool, PIECE_SIZE};
 use read_commands::{BadNumber, Failure, NotesRefusals, report_failure};
-use running_pools::{close_alone, open_alone};
+use running_pools::{OWNER, close_alone, open_alone};
 use std::alloc::{AllocError, Global};
 use std::fmt;
 use std::io::{self, Read, Write};
 use std::sync::Wait;
-
-/// The owner of a command's transactions.
-pub const OWNER: Owner = Owner(0);
 
 /// What is printed of standard input as a file.
 pub(crate) const STANDARD_INPUT: &str = "-";

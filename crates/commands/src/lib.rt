@@ -21,7 +21,7 @@ mod pool_files;
 mod put_room;
 mod replacing;
 
-pub use changes::{OWNER, put_on, read_input, remove_on, run_put, run_remove};
+pub use changes::{put_on, read_input, remove_on, run_put, run_remove};
 pub use dispatch::run_change;
 pub use laws::{new_names_are_written, puts_leave_bytes, removed_names_are_gone};
 pub use named_puts::{put_named_on, run_put_named};

@@ -7,13 +7,13 @@ ghost use Rattle.commands.specs.TableReads.{ReadsTable};
 ghost use Rattle.running_pools.specs.LeftDevices.{LosesNothing};
 ghost use Rattle.pool_threads.specs.Handles.{OpensBehind, opening_view, shared_of};
 
-use crate::changes::OWNER;
 use crate::named_steps::NameRefusal;
 use base::{ObjectId, PoolError};
 use device_model::SectorDevice;
 use object_names::NameTable;
 use pool_threads::{Handle, Limits, Pool};
 use read_commands::{Failure, NameFailure, NotesRefusals, TABLE_RANGE, table_of};
+use running_pools::OWNER;
 use std::alloc::Global;
 use std::sync::Wait;
 

@@ -1,18 +1,18 @@
 //! The steps that puts and removals by name have in common: a transaction, the write of a slot, and why one was refused.
 
 ghost use Rattle.std.specs.Prelude.{◌≡◌, ◌≤◌, Err, IfErr, IfOk, length};
-ghost use Rattle.commands.specs.Committed.{command_owner};
+ghost use Rattle.running_pools.specs.Commits.{command_owner};
 ghost use Rattle.commands.specs.NamedOps.{slot_op};
 ghost use Rattle.commands.specs.NameRefusals.{by_engine};
 ghost use Rattle.object_names.specs.Names as names;
 ghost use Rattle.pool_threads.specs.Transacts.{TransactsOrLacks};
 
-use crate::changes::OWNER;
 use base::{Bytes, ObjectId, Op, Ops, PoolError, Receipt};
 use device_model::SectorDevice;
 use object_names::{slot_of, slot_place};
 use pool_threads::Handle;
 use read_commands::NameCause;
+use running_pools::OWNER;
 use std::alloc::{AllocError, Global};
 use std::sync::Wait;
 

@@ -5,7 +5,7 @@
 //! 2. The first name of a pool makes object 0 as well, if it isn't there, and writes the header.
 
 ghost use Rattle.std.specs.Prelude.{◌≡◌, ◌≤◌, ◌*◌, IfOk, length, min, true};
-ghost use Rattle.commands.specs.Committed.{MakesFirst};
+ghost use Rattle.running_pools.specs.Commits.{MakesFirst};
 ghost use Rattle.commands.specs.Puts.{is_target};
 ghost use Rattle.commands.specs.NamedOps.{naming_ops, naming_transactions, table_ops};
 ghost use Rattle.commands.specs.NewObjects.{FindsNew, PutsNew, lacks_room_beside};

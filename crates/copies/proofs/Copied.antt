@@ -19,7 +19,7 @@ use Rattle.base.specs.tree.Mount.{MountsTo}
 use Rattle.base.proofs.common.KeptLists.{get_or-zeros}
 use Rattle.base.proofs.common.Sequences.{joined, parted}
 use Rattle.base.proofs.history.Writes.{get_or-resize, length-bytes_after_write, length-resize, overwritten_above, overwritten_below, overwritten_in}
-use Rattle.commands.proofs.PutBytes.{LeavesOthers, changed_there, made, none_left, object, one, others_on, others_same}
+use Rattle.running_pools.proofs.OneObject.{LeavesOthers, changed_there, made, none_left, object, one, others_on, others_same}
 use Rattle.object_views.specs.ObjectViews.{length_seen, object_of}
 use Rattle.object_views.specs.declared.view.ObjectView.{ObjectView}
 use Rattle.import_replay.specs.OwnCreations.{first_contents}

@@ -18,10 +18,10 @@ use Rattle.running_pools.proofs.Adds.{AddsAlone, alone_on, alone_same, ops_of, p
 use Rattle.running_pools.proofs.Cuts.{replays_all}
 use Rattle.running_pools.proofs.LeftDevices.{alone_leaves}
 use Rattle.running_pools.proofs.Sounds.{AllAcknowledged, IsSound, all_acknowledged, durable_after, sound_on}
-use Rattle.commands.specs.Committed.{command_owner}
-use Rattle.commands.proofs.Committed.{sound_first}
+use Rattle.running_pools.specs.Commits.{command_owner}
+use Rattle.running_pools.proofs.Commits.{sound_first}
 use Rattle.device_model.specs.declared.device.SectorDevice.{Ghosts}
-use Rattle.durable_answers.proofs.Along.{along_syncs}
+use Rattle.running_pools.proofs.Along.{along_syncs}
 use Rattle.import_replay.specs.OwnCreations.{first_contents}
 use Rattle.pool_threads.specs.declared.handle.Handle.{Handle}
 use Rattle.pool_threads.specs.declared.handle.LastSeen.{LastSeen}

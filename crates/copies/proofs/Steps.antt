@@ -12,7 +12,7 @@ use Rattle.base.specs.declared.names.ObjectId.{ObjectId}
 use Rattle.base.specs.declared.names.Receipt.{Receipt}
 use Rattle.base.specs.declared.operation.Op.{Op}
 use Rattle.base.specs.disk.Disk.{Disk, bytes_of}
-use Rattle.commands.specs.Committed.{command_owner}
+use Rattle.running_pools.specs.Commits.{command_owner}
 use Rattle.device_model.specs.declared.device.SectorDevice.{Ghosts}
 use Rattle.object_views.specs.ObjectViews.{TellsOwnDamage, length_seen, object_of}
 use Rattle.object_views.specs.declared.view.ObjectView.{ObjectView}

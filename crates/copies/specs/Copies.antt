@@ -8,7 +8,7 @@ use Rattle.base.specs.declared.names.ObjectId.{ObjectId}
 use Rattle.base.specs.declared.operation.Op.{Op}
 use Rattle.base.specs.declared.operation.Op.TheVariants.{Create, SetLength, Write}
 use Rattle.base.specs.disk.Disk.{Disk, bytes_of}
-use Rattle.commands.specs.Committed.{MakesFirst}
+use Rattle.running_pools.specs.Commits.{MakesFirst}
 use Rattle.device_model.specs.declared.device.SectorDevice.{Ghosts}
 use Rattle.object_views.specs.ObjectViews.{IsCheckedRead, TellsOwnDamage, length_seen, object_of}
 use Rattle.object_views.specs.declared.view.ObjectView.{ObjectView}

@@ -7,12 +7,15 @@ ghost use Rattle.running_pools.specs.LeftDevices.{ClosesAfter};
 ghost use Rattle.import_replay.specs.ImportRefusals.{IsImportRefusal};
 ghost use Rattle.pool_threads.specs.Handles.{IsFirstSeen, IsLeftByOpen, LeavesSame, OpensBehind, WasOf, kin_left, opening_view, owned_of};
 
-use base::{DEFAULT_CACHE_BLOCKS, PoolError};
+use base::{DEFAULT_CACHE_BLOCKS, Owner, PoolError};
 use device_model::SectorDevice;
 use import_replay::{Limits, import};
 use pool_threads::{LastSeen, OwnedPool};
 use std::alloc::Global;
 use std::snapshot::Snapshot;
+
+/// The owner of a command's transactions.
+pub const OWNER: Owner = Owner(0);
 
 /// Opens the pool on a device for one handle, as `Pool::open` does. It also returns what that handle has seen before
 /// its first call: `OwnedPool::handle_after` makes the handle of it.

@@ -10,12 +10,18 @@ ghost use Rattle.base.specs.steps.Explains.{IsLeftBy};
 ghost use Rattle.running_pools.specs.LeftDevices.{LeavesContents};
 ghost use Rattle.pool_threads.specs.Handles.{OpensBehind, opening_view, shared_of};
 
-use crate::alone::{close_alone, open_alone};
+use crate::alone::{OWNER, close_alone, open_alone};
 use crate::closing::close;
-use base::{DEFAULT_DIRTY_MAX, PoolError};
+use base::{DEFAULT_DIRTY_MAX, Owner, PoolError};
 use device_model::SectorDevice;
 use pool_threads::Pool;
 use std::alloc::Global;
+
+fn a_command_has_owner_0() -> Owner
+    ensures { result.0 ≡ 0 }
+{
+    OWNER
+}
 
 // Whatever a crash leaves of its device then, an import mounts the contents that the first import did.
 fn a_pool_that_is_opened_and_closed_has_what_it_had<D: SectorDevice + Drop>(

@@ -16,7 +16,7 @@ mod closing;
 mod halt;
 mod loops;
 
-pub use alone::{close_alone, open_alone};
+pub use alone::{OWNER, close_alone, open_alone};
 pub use beside::{run_beside_loops, work_beside_loops};
 pub use closing::{close, close_after};
 pub use halt::Halt;

@@ -31,7 +31,8 @@ use Rattle.pool_threads.proofs.FetchesSeen.{fetches_along}
 use Rattle.pool_threads.proofs.TransactsSeen.{entered_by}
 use Rattle.durable_answers.specs.Durability.{Asks, AsksAll, MakesDurable, durable_receipt}
 use Rattle.serving.specs.Calls.{IsDurableAs, ListsObjects, MakesCall, MakesCalls, outcome_of}
-use Rattle.durable_answers.proofs.Along.{along_fsyncs, along_lists, along_looked, along_syncs, along_transacts}
+use Rattle.durable_answers.proofs.Along.{along_fsyncs, along_lists}
+use Rattle.running_pools.proofs.Along.{along_looked, along_syncs, along_transacts}
 
 -- the entry of a receipt is there
 abbrev pub IsEntered : Receipt → State → Type 0

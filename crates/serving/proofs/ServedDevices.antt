@@ -23,7 +23,8 @@ use Rattle.durable_answers.specs.Durability.{Asks, AsksAll, MakesDurable}
 use Rattle.serving.specs.Frames.{AnswersFrame}
 use Rattle.serving.specs.Inputs.{AnswersFrames, Exchange, Streams, program}
 use Rattle.serving.specs.declared.inputs.Ending.{Ending}
-use Rattle.durable_answers.proofs.Along.{along_fsyncs, along_syncs}
+use Rattle.durable_answers.proofs.Along.{along_fsyncs}
+use Rattle.running_pools.proofs.Along.{along_syncs}
 use Rattle.serving.proofs.Durable.{along_calls}
 use Rattle.import_replay.proofs.MountedPools.{group-within}
 use Rattle.pool_threads.specs.declared.handle.Handle.{Handle}

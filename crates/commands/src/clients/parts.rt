@@ -3,20 +3,14 @@
 ghost use Rattle.std.specs.Prelude.{◌≡◌, ◌≢◌, Err, Ok, false};
 
 use crate::changes::{
-    OWNER, Put, Start, bad_number_of, first_byte, first_refusal, is_target, write_rest,
+    Put, Start, bad_number_of, first_byte, first_refusal, is_target, write_rest,
 };
 use crate::put_room::lacks_room;
-use base::{Group, ObjectId, Owner, PoolError};
+use base::{Group, ObjectId, PoolError};
 use device_model::SectorDevice;
 use pool_threads::Handle;
 use read_commands::BadNumber;
 use std::sync::Wait;
-
-fn a_command_has_owner_0() -> Owner
-    ensures { result.0 ≡ 0 }
-{
-    OWNER
-}
 
 fn an_object_may_have_its_last_byte_and_none_after_it() {
     let last = is_target(7, Some(28_449_791), b"1");

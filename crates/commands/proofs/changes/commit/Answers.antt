@@ -1,6 +1,6 @@
 use Rattle.std.proofs.Common.{subst}
 use Rattle.pool_threads.specs.Transacts.{TransactsOrLacks}
-use Rattle.commands.specs.Committed.{command_owner}
+use Rattle.running_pools.specs.Commits.{command_owner}
 use Rattle.commands.proofs.changes.commit.Goals as goal
 
 pub returns : goal.returns

@@ -1,6 +1,6 @@
 use Rattle.std.proofs.Common.{◌+◌, ap, drop, length, refl, subst, sym, take, ◌∙◌, ℕ, Err, List}
 use Rattle.base.specs.declared.operation.Op.{Op}
-use Rattle.commands.specs.Committed.{MakesFirst}
+use Rattle.running_pools.specs.Commits.{MakesFirst}
 use Rattle.commands.specs.Puts.{piece_ops, put_transactions, rest_transactions}
 use Rattle.commands.proofs.Pieces.{first_committed, first_piece}
 use Rattle.commands.proofs.changes.put_pieces.Goals as goal

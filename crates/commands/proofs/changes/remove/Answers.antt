@@ -1,7 +1,7 @@
 use Rattle.std.proofs.Common.{◌≡◌, ◌∷◌, [], rules, subst}
 use Rattle.base.specs.declared.operation.Op.TheVariants.{Remove}
 use Rattle.pool_threads.specs.Transacts.{TransactsOrLacks}
-use Rattle.commands.specs.Committed.{command_owner}
+use Rattle.running_pools.specs.Commits.{command_owner}
 use Rattle.commands.proofs.changes.remove.Goals as goal
 
 pub returns : goal.returns

@@ -1,5 +1,5 @@
 use Rattle.std.proofs.Common.{rules, ◌<◌, ◌*◌, Err, Ok, ap, length, min, subst, sym, ◌∙◌, ℕ}
-use Rattle.commands.specs.Committed.{MakesFirst}
+use Rattle.running_pools.specs.Commits.{MakesFirst}
 use Rattle.commands.specs.Puts.{rest_transactions}
 use Rattle.commands.proofs.Pieces.{few_enough, some_bytes, wrote_all, wrote_some}
 use Rattle.commands.proofs.changes.write_rest.Goals as goal

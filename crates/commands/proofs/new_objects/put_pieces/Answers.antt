@@ -1,6 +1,6 @@
 use Rattle.std.proofs.Common.{◌+◌, ℕ, Err, List, Ok, ap, drop, length, refl, subst, sym, take, ◌∙◌}
 use Rattle.base.specs.declared.operation.Op.{Op}
-use Rattle.commands.specs.Committed.{MakesFirst}
+use Rattle.running_pools.specs.Commits.{MakesFirst}
 use Rattle.commands.specs.Puts.{rest_transactions}
 use Rattle.commands.proofs.Pieces.{first_committed}
 use Rattle.commands.specs.NamedOps.{naming_ops, naming_transactions}

@@ -1,7 +1,7 @@
 use Rattle.std.proofs.Common.{◌≡◌, ◌∷◌, [], List, Ok, rules, subst}
 use Rattle.base.specs.declared.operation.Op.{Op}
 use Rattle.base.specs.declared.operation.Op.TheVariants.{Create, SetLength}
-use Rattle.commands.specs.Committed.{command_owner}
+use Rattle.running_pools.specs.Commits.{command_owner}
 use Rattle.pool_threads.specs.Transacts.{TransactsOrLacks}
 use Rattle.copies.proofs.Steps.{one_made}
 use Rattle.copies.proofs.objects.make_object.Goals as goal
