@@ -31,7 +31,7 @@ use Rattle.pool_threads.specs.Views.{CrashRule, GrowsTo, IsFollowed, IsPoolStep,
 use Rattle.pool_threads.proofs.SafeTurns.{stepped_explained, stepped_safe}
 use Rattle.pool_threads.proofs.Turned.{grows_by_one}
 use Rattle.fronts.specs.Fronts.{GoesIntoOpen, IsFrontOf, MountsToFront}
-use Rattle.fronts.specs.RisingPools.{LeavesFronts, LeavesFrontsBetween, PoolStepsKeepRising, Rises, SteppedPoolsLeaveFronts, is_commit}
+use Rattle.fronts.specs.RisingPools.{IsInOrder, LeavesFronts, LeavesFrontsBetween, PoolStepsKeepRising, Rises, SteppedPoolsLeaveFronts, is_commit}
 use Rattle.fronts.proofs.Fronts.{mounts_front, safe_disks_leave_fronts}
 use Rattle.fronts.proofs.RisingSteps.{steps_keep_rising, turns_keep_rising}
 
@@ -126,16 +126,11 @@ into_none (step.Commit tx ops) (reply.Committed receipt) t none = absurd (true�
 into_none _ _ t none = tt
 
 module _ (keeps : Bool) where
-  -- groups rise, and a crash now leaves a front if the crash rule is followed
-  pub record IsSound (v : SeenPool) : Type 0 where
-    pub rising : Rises v
-    pub fronts : IsTrue keeps → (created : ℕ) → IsFollowed v.rule created → ∥ LeavesFronts created v ∥₁
-
   -- It is so later on, too, and a crash at any moment between leaves a front.
   pub record Leads (v w : SeenPool) : Type 0 where
     pub onward : GrowsTo (IsTrue keeps) v w
-    pub sound : IsSound v → IsSound w
-    pub between : IsSound v → IsTrue keeps → (created : ℕ) → IsFollowed v.rule created → ∥ LeavesFrontsBetween created v w ∥₁
+    pub sound : IsInOrder keeps v → IsInOrder keeps w
+    pub between : IsInOrder keeps v → IsTrue keeps → (created : ℕ) → IsFollowed v.rule created → ∥ LeavesFrontsBetween created v w ∥₁
 
   pub leads_same : (v w : SeenPool) → w ≡ v → Leads v w
   leads_same v w same = subst (λ (u : SeenPool). Leads v u) (sym same) (record {

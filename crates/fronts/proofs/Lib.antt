@@ -1,6 +1,8 @@
 pub mod Fronts
 pub mod RisingSteps
 pub mod FrontsBetween
-pub mod OverCalls
+pub mod OverTurns
+pub mod OrderlyCalls
 pub mod RisingCalls
+pub mod DurableTransactions
 mod TwoTransactions

@@ -1,7 +1,10 @@
--- Groups go on rising over each call of the only handle of a pool, and a crash at any moment of it leaves a front.
-use Rattle.std.proofs.Common.{◌≡◌, List, [], arith, refl, subst, sym}
-use Rattle.std.specs.Prelude.{Bool, IsTrue, Result}
+-- Groups go on rising over orderly turns, so over each call of the only handle of a pool. A crash at any moment of them
+-- leaves a front.
+use Rattle.std.proofs.Common.{◌≡◌, ◌≢◌, ℕ, List, [], ◌∷◌, arith, false, if◌then◌else◌, refl, subst, sym, true, ◌==◌, ◌∙◌}
+use Rattle.std.specs.Prelude.{All, Bool, IsTrue, Result}
 use Rattle.std.proofs.Math.Logic.{∥∥₁_elim, ∥∥₁_map, ∥∥₁_prop}
+use Rattle.std.proofs.lemmas.Bool.{eq-eqb, eqb-true, true≢false}
+use Rattle.std.proofs.lemmas.List.Elements.{All-cons, All-head, All-nil, All-tail}
 use Rattle.base.specs.declared.error.PoolError.{PoolError}
 use Rattle.base.specs.declared.names.Owner.{Owner}
 use Rattle.base.specs.declared.names.Receipt.{Receipt}
@@ -13,13 +16,18 @@ use Rattle.base.specs.history.Past.{Past}
 use Rattle.base.proofs.steps.SeenStates.{grown}
 use Rattle.device_model.specs.declared.device.SectorDevice.{Ghosts}
 use Rattle.pool_threads.specs.declared.handle.Handle.{Handle}
-use Rattle.pool_threads.specs.Handles.{kin_of, opening_view, view_seen}
+use Rattle.pool_threads.specs.Handles.{opening_view, view_seen}
 use Rattle.pool_threads.specs.Transacts.{MakesTransaction}
 use Rattle.pool_threads.specs.Views.{CrashRule, IsFollowed, SeenPool, grows_onward, since, viewed_state}
-use Rattle.fronts.specs.RisingPools.{CallsGoOnRising, FirstHandlesRise, GoesOnRising, LeavesFronts, LeavesFrontsBetween, OtherCallsGoOnRising, Rises, RisesAlone, TransactionsKeepRising, TransactsGoOnRising}
+use Rattle.word_lock.specs.declared.rule.Turn.{Turn}
+use Rattle.word_lock.specs.Seats.{seat_number}
+use Rattle.word_lock.specs.Turns.{turns_of}
+use Rattle.fronts.specs.RisingPools.{CallsGoOnRising, FirstHandlesRise, GoesOnRising, IsInOrder, LeavesFronts, LeavesFrontsBetween, OtherCallsGoOnRising, Rises, RisesAlone, TransactionsKeepRising, TransactsGoOnRising}
+use Rattle.fronts.specs.SharedPools.{IsOrderlyTurn, OpenedPoolsAreInOrder, OrderlyTurnsStayInOrder, SharedPoolsLeaveFronts, TakesOrderlyTurns}
 use Rattle.fronts.proofs.Fronts.{safe_disks_leave_fronts}
-use Rattle.fronts.proofs.FrontsBetween.{IsSound, Leads, commit_rises, fronts_on, leads_by_commit, leads_by_step, leads_on, leads_same, rises_by_step}
-use Rattle.fronts.proofs.OverCalls.{other_calls_alone, over_transaction, transactions_alone}
+use Rattle.fronts.proofs.FrontsBetween.{Leads, commit_rises, fronts_on, leads_by_commit, leads_by_step, leads_on, leads_same, rises_by_step}
+use Rattle.fronts.proofs.OrderlyCalls.{other_calls_take_orderly_turns, transacts_take_orderly_turns}
+use Rattle.fronts.proofs.OverTurns.{over_all, over_own, over_transaction}
 
 none_rises : AreRising []
 none_rises i j d low within = absurd (omega (arith, within))
@@ -37,38 +45,68 @@ module _ (keeps : Bool) where
 pub transactions_keep_rising : TransactionsKeepRising
 transactions_keep_rising keeps owner ranges plan ops result v w made rising = transactions_rise keeps owner ranges plan ops result v w made rising
 
+-- turns of whichever handles
+pub orderly_turns_stay_in_order : OrderlyTurnsStayInOrder
+orderly_turns_stay_in_order keeps v w turns line each x =
+    let a = over_all (IsTrue keeps) (Leads keeps) (leads_same keeps) (leads_on keeps) (leads_by_step keeps) (leads_by_commit keeps) turns v w line each in
+    record { onward = a.onward; after = a.sound x; between = a.between x }
+
+-- turns are all of a kind if those of each seat are
+all_of_seats : (P : Turn SeenPool → Type 0) (ts : List (ℕ × Turn SeenPool)) → ((seat : ℕ) → All P (turns_of seat ts)) → All (λ (t : ℕ × Turn SeenPool). P t.1) ts
+all_of_seats P [] each = All-nil (λ (t : ℕ × Turn SeenPool). P t.1)
+all_of_seats P (t ∷ ts) each =
+    let own : All P (t.1 ∷ turns_of t.0 ts) = subst (λ (b : Bool). All P (if b then t.1 ∷ turns_of t.0 ts else turns_of t.0 ts)) (eq-eqb t.0 t.0 refl) (each t.0) in
+    All-cons (λ (t : ℕ × Turn SeenPool). P t.1) t ts (All-head P t.1 (turns_of t.0 ts) own) (all_of_seats P ts (λ seat. rest seat (t.0 == seat) (each seat)))
+  where
+    rest : (seat : ℕ) (b : Bool) → All P (if b then t.1 ∷ turns_of seat ts else turns_of seat ts) → All P (turns_of seat ts)
+    rest seat true all = All-tail P t.1 (turns_of seat ts) all
+    rest seat false all = all
+
+-- those of a seat are, if they are its own or those of another
+of_seat : (P : Turn SeenPool → Type 0) (own : ℕ) (all : List (ℕ × Turn SeenPool)) → All P (turns_of own all) → ((seat : ℕ) → seat ≢ own → All P (turns_of seat all)) → (seat : ℕ) (b : Bool) → (seat == own) ≡ b → All P (turns_of seat all)
+of_seat P own all mine others seat true is = subst (λ (n : ℕ). All P (turns_of n all)) (sym (eqb-true seat own is)) mine
+of_seat P own all mine others seat false is = others seat (λ same. true≢false (sym (eq-eqb seat own same) ∙ is))
+
 module _ {Dev : Type 0} {G : Ghosts Dev} where
   -- the view that a pool opens with has no entries, and a crash leaves what it began with
-  pub first_handles_rise : FirstHandlesRise G
-  first_handles_rise p old dirty_max h opens only saw =
+  pub opened_pools_are_in_order : OpenedPoolsAreInOrder G
+  opened_pools_are_in_order p old dirty_max opens =
       let there : AreRising (opening_view p).past.entries = subst (λ (q : Past). AreRising q.entries) (sym opens.anew) none_rises in
       record {
-        only = only;
-        rising = subst Rises (sym saw) ∣ there ∣₁;
+        rising = ∣ there ∣₁;
         fronts = λ k created follows.
-            subst (λ (v : SeenPool). ∥ LeavesFronts created v ∥₁) (sym saw)
-            (∥∥₁_map {B = LeavesFronts created (opening_view p)} (opens.explained k created (subst (λ (v : SeenPool). IsFollowed v.rule created) saw follows))
-            (λ x. safe_disks_leave_fronts (opening_view p).disk (since created (opening_view p).past) there (x.safe tt)));
+            ∥∥₁_map {B = LeavesFronts created (opening_view p)} (opens.explained k created follows) (λ x. safe_disks_leave_fronts (opening_view p).disk (since created (opening_view p).past) there (x.safe tt));
       }
 
-  goes_on : (old new : Handle Dev G) → (kin_of old ≡ 0 → (kin_of new ≡ 0) × Leads G.keeps_model (view_seen old) (view_seen new)) → RisesAlone old → GoesOnRising old new
-  goes_on old new alone x =
-      let here : IsSound G.keeps_model (view_seen old) = record { rising = x.rising; fronts = x.fronts } in
-      let a = alone x.only in
-      let there : IsSound G.keeps_model (view_seen new) = a.1.sound here in
+  pub first_handles_rise : FirstHandlesRise G
+  first_handles_rise p old dirty_max h opens only saw =
+      let x : IsInOrder G.keeps_model (view_seen h) = subst (λ (v : SeenPool). IsInOrder G.keeps_model v) (sym saw) (opened_pools_are_in_order p old dirty_max opens) in
+      record { only = only; rising = x.rising; fronts = x.fronts }
+
+  pub shared_pools_leave_fronts : SharedPoolsLeaveFronts G
+  shared_pools_leave_fronts p old dirty_max l s opens last mine others =
+      let P : Turn SeenPool → Type 0 = IsOrderlyTurn (IsTrue G.keeps_model) in
+      orderly_turns_stay_in_order G.keeps_model (opening_view p) last.last last.history.0 last.history.1
+      (all_of_seats P last.history.0 (λ seat. of_seat P (seat_number l.seat) last.history.0 (subst (λ (ts : List (Turn SeenPool)). All P ts) last.history.2 mine) others seat (seat == seat_number l.seat) refl))
+      (opened_pools_are_in_order p old dirty_max opens)
+
+  -- over the turns of the only handle
+  goes_on : (old new : Handle Dev G) → TakesOrderlyTurns old new → RisesAlone old → GoesOnRising old new
+  goes_on old new t x =
+      let here : IsInOrder G.keeps_model (view_seen old) = record { rising = x.rising; fronts = x.fronts } in
+      let a = over_own (IsTrue G.keeps_model) (Leads G.keeps_model) (leads_same G.keeps_model) (leads_on G.keeps_model) (leads_by_step G.keeps_model) (leads_by_commit G.keeps_model) t.made.had (view_seen old) (view_seen new) t.made.each (t.made.alone x.only) in
+      let there : IsInOrder G.keeps_model (view_seen new) = a.sound here in
       record {
-        onward = a.1.onward;
-        after = record { only = a.0; rising = there.rising; fronts = there.fronts };
-        between = a.1.between here;
+        onward = a.onward;
+        after = record { only = t.made.met_none.0 ∙ x.only; rising = there.rising; fronts = there.fronts };
+        between = a.between here;
       }
 
   pub transacts_go_on_rising : TransactsGoOnRising G
-  transacts_go_on_rising old new made x =
-      goes_on old new (transactions_alone {G = G} (Leads G.keeps_model) (leads_same G.keeps_model) (leads_on G.keeps_model) (leads_by_step G.keeps_model) (leads_by_commit G.keeps_model) old new made) x
+  transacts_go_on_rising old new made x = goes_on old new (transacts_take_orderly_turns old new made) x
 
   pub other_calls_go_on_rising : OtherCallsGoOnRising G
-  other_calls_go_on_rising old new made x =
-      goes_on old new (other_calls_alone {G = G} (Leads G.keeps_model) (leads_same G.keeps_model) (leads_on G.keeps_model) (leads_by_step G.keeps_model) old new made) x
+  other_calls_go_on_rising old new made x = goes_on old new (other_calls_take_orderly_turns old new made) x
 
   pub calls_go_on_rising : CallsGoOnRising G
   calls_go_on_rising old now new first later = record {

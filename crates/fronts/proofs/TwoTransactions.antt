@@ -1,6 +1,7 @@
 -- What an import finds after two transactions of the only handle of a pool, and a crash.
-use Rattle.std.proofs.Common.{◌≡◌, ◌≤◌, ◌++◌, ◌∷◌, [], ℕ, zero, suc, List, Ok, ap, arith, inl, inr, length, refl, subst, sym, take, ◌∙◌, ◌⊎◌}
+use Rattle.std.proofs.Common.{◌≡◌, ◌<◌, ◌≤◌, ◌++◌, ◌∷◌, [], ℕ, zero, suc, List, Ok, ap, arith, inl, inr, length, refl, subst, sym, take, ◌∙◌, ◌⊎◌}
 use Rattle.std.specs.Prelude.{IsTrue}
+use Rattle.std.proofs.lemmas.List.{length-map}
 use Rattle.std.proofs.Math.Logic.{∥∥₁_elim, ∥∥₁_map, ∥∥₁_prop}
 use Rattle.base.specs.declared.names.Owner.{Owner}
 use Rattle.base.specs.declared.names.Receipt.{Receipt}
@@ -20,7 +21,7 @@ use Rattle.pool_threads.specs.declared.handle.Handle.{Handle}
 use Rattle.pool_threads.specs.declared.handle.LastSeen.{LastSeen}
 use Rattle.pool_threads.specs.declared.shared.Shared.{Shared}
 use Rattle.pool_threads.specs.Handles.{IsBackIn, IsFirstSeen, IsLeftBehind, OpensBehind, StaysInPool, WasOf, kin_left, opening_view}
-use Rattle.pool_threads.specs.Transacts.{TransactsOrLacks}
+use Rattle.pool_threads.specs.Transacts.{TransactsDurably, TransactsOrLacks}
 use Rattle.pool_threads.specs.Views.{SeenPool, since, viewed_state}
 use Rattle.word_lock.specs.Seats.{seat_table}
 use Rattle.running_pools.specs.LeftDevices.{ClosesAfter, IsOnlyHandle, LeavesContents}
@@ -29,6 +30,7 @@ use Rattle.running_pools.proofs.LeftDevices.{alone_upon, only_handle, only_numbe
 use Rattle.fronts.specs.Fronts.{IsFrontOf}
 use Rattle.fronts.specs.RisingPools.{RisesAlone}
 use Rattle.fronts.specs.RisingPools.MakesTransactions.{by_transact}
+use Rattle.fronts.proofs.DurableTransactions.{durable_entered, durable_transacts_have_all_before}
 use Rattle.fronts.proofs.Fronts.{cuts_are_fronts}
 use Rattle.fronts.proofs.RisingCalls.{first_handles_rise, transacts_go_on_rising}
 
@@ -64,6 +66,12 @@ module _ (one two : List Op) where
   some_found (suc (suc zero)) e f base c within is_one is_two h = inr (inr (both_found e f base c is_one is_two h))
   some_found (suc (suc (suc n))) e f base c within is_one is_two h = absurd (omega (arith, within))
 
+  more_found : (n : ℕ) (e f : Entry) (base c : Contents) → 1 < n → n ≤ 2 → e.ops ≡ one → f.ops ≡ two → replay (take n (e ∷ f ∷ [])) base ≡ Ok c → AreBoth base c
+  more_found zero e f base c more within is_one is_two h = absurd (omega (arith, more))
+  more_found (suc zero) e f base c more within is_one is_two h = absurd (omega (arith, more))
+  more_found (suc (suc zero)) e f base c more within is_one is_two h = both_found e f base c is_one is_two h
+  more_found (suc (suc (suc n))) e f base c more within is_one is_two h = absurd (omega (arith, within))
+
   -- a list of two entries of these operations
   record AreTwo (entries : List Entry) : Type 0 where
     first : Entry
@@ -88,6 +96,14 @@ module _ (one two : List Op) where
         let within : front.count ≤ length past.entries = front.within in
         let long : length past.entries ≡ 2 = ap length t.are in
         some_found front.count t.first t.second past.base c (omega (arith, within, long)) t.is_one t.is_two (subst (λ (es : List Entry). replay (take front.count es) past.base ≡ Ok c) t.are front.replayed)
+
+    -- and one that has more than the first
+    pub front_finds_both : 1 < front.count → AreBoth past.base c
+    front_finds_both more =
+        let t = two_in past.entries all in
+        let within : front.count ≤ length past.entries = front.within in
+        let long : length past.entries ≡ 2 = ap length t.are in
+        more_found front.count t.first t.second past.base c more (omega (arith, within, long)) t.is_one t.is_two (subst (λ (es : List Entry). replay (take front.count es) past.base ≡ Ok c) t.are front.replayed)
 
 module _ {Dev : Type 0} {G : Ghosts Dev} where
   -- The only handle of a pool made a first transaction, and then a call that made a second one and no more.
@@ -119,6 +135,21 @@ module _ {Dev : Type 0} {G : Ghosts Dev} where
           ∥∥₁_elim two_entries ∥∥₁_prop (λ a.
           ∥∥₁_map {B = (c : Contents) → IsLeftBy (since created (past_seen last)) c → AreFirst one two (past_seen last).base c} rises.rising (λ up c is.
           front_finds one two (since created (past_seen last)) (entries_are (one ∷ two ∷ []) (past_seen last) a) c (cuts_are_fronts (since created (past_seen last)) c up is)))) after closes keeps
+
+      -- it finds both if the second one is durable
+      pub finds_both : (q : Receipt) → TransactsDurably owner two (Ok q) now last → (after : Dev) → ClosesAfter p left after → IsTrue G.keeps_model → LeavesContents (AreBoth one two) (G.disk device) (G.disk after)
+      finds_both q durable after closes keeps =
+          alone_upon p device dirty_max opens h last only left rises.only behind (λ later. (c : Contents) → IsLeftBy later c → AreBoth one two later.base c) (λ created.
+          ∥∥₁_elim two_entries ∥∥₁_prop (λ a.
+          ∥∥₁_elim one_entry ∥∥₁_prop (λ b.
+          ∥∥₁_elim (durable_entered owner two q now last durable) ∥∥₁_prop (λ entered.
+          ∥∥₁_map {B = (c : Contents) → IsLeftBy (since created (past_seen last)) c → AreBoth one two (past_seen last).base c} (durable_transacts_have_all_before owner two q now last durable rises_first) (λ each c is.
+          let f = each created c is in
+          let fresh : length (past_seen now).entries ≤ q.ordinal.0 = entered.1.fresh in
+          let one_before : length (ops_of (past_seen now).entries) ≡ 1 = ap length (entries_are (one ∷ []) (past_seen now) b) in
+          let same : length (ops_of (past_seen now).entries) ≡ length (past_seen now).entries = length-map (past_seen now).entries (λ (e : Entry). e.ops) in
+          let has : q.ordinal.0 < f.front.count = f.has in
+          front_finds_both one two (since created (past_seen last)) (entries_are (one ∷ two ∷ []) (past_seen last) a) c f.front (omega (arith, fresh, one_before, same, has))))))) after closes keeps
 
 -- a handle that left its pool was one of it, and the only one
 pub was_of : {Dev : Type 0} {G : Ghosts Dev} (p : Shared Dev G) (l : LastSeen Dev G) (h now last : Handle Dev G) (left : LastSeen Dev G) → IsFirstSeen p l → IsBackIn p l h → StaysInPool h now → StaysInPool now last → IsLeftBehind last left → WasOf p left

@@ -1,2 +1,4 @@
+pub mod DurableTransactions
 pub mod Fronts
 pub mod RisingPools
+pub mod SharedPools

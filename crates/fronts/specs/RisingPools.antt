@@ -64,6 +64,18 @@ abbrev pub is_commit : declared_step.Step → declared_reply.Reply → Bool
 is_commit (step.Commit tx ops) (reply.Committed receipt) = true
 is_commit _ _ = false
 
+-- Groups rise in what is seen of a pool. If the crash rule is followed over a device that keeps the disk model, a crash
+-- now leaves a front.
+pub record IsInOrder (keeps : Bool) (v : SeenPool) : Type 0 where
+  pub rising : Rises v
+  pub fronts : IsTrue keeps → (created : ℕ) → IsFollowed v.rule created → ∥ LeavesFronts created v ∥₁
+
+-- So it is of a later view, too, and a crash at any moment from the one to the other has left a front.
+pub record StaysInOrder (keeps : Bool) (v w : SeenPool) : Type 0 where
+  pub onward : GrowsTo (IsTrue keeps) v w
+  pub after : IsInOrder keeps w
+  pub between : IsTrue keeps → (created : ℕ) → IsFollowed v.rule created → ∥ LeavesFrontsBetween created v w ∥₁
+
 module _ {Dev : Type 0} {G : Ghosts Dev} where
   -- The handle is the only one that its pool ever had, so nothing else has moved the pool. Groups rise in what it has
   -- seen. If the crash rule is followed over a device that keeps the disk model, a crash now leaves a front.

@@ -47,6 +47,33 @@ fn a_crash_leaves_no_second_transaction_without_the_first<D: SectorDevice + Drop
     Some(close_alone(pool, last))
 }
 
+// If the second one is durable, an import finds both, whatever a crash leaves. So a durable transaction makes all before it
+// durable.
+fn a_durable_second_transaction_has_the_first_with_it<D: SectorDevice + Drop, W: Wait>(
+    rt: &W,
+    alloc: Global,
+    device: D,
+    one: Ops,
+    two: Ops,
+) -> Option<D>
+    ensures { IsTrue D.keeps_model → IfSome result (λ after. LeavesContents
+        (λ base c. (d : Contents) × (apply_all one base ≡ Ok d) × (apply_all two d ≡ Ok c))
+        (D.disk device) (D.disk after)) }
+{
+    let Ok((pool, first)) = open_alone(alloc, device, DEFAULT_DIRTY_MAX, 0) else {
+        return None;
+    };
+    let mut handle = pool.handle_after(first);
+    let Ok(_) = handle.transact(rt, Owner(1), one) else {
+        return None;
+    };
+    let Ok(_) = handle.transact_durably(rt, Owner(1), two) else {
+        return None;
+    };
+    let last = handle.leave();
+    Some(close_alone(pool, last))
+}
+
 // And an open after a crash shows contents that the run left, whatever pieces of the writes since the last flush stand.
 // So it is of the device that the one above gives back, whose contents it says.
 fn an_open_after_a_crash_shows_what_was_left(

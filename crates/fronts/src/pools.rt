@@ -6,7 +6,11 @@
 //! 2. Only a commit of a transaction that was begun before another group was opened may not: `Handle::commit`, and
 //!    `Handle::step` with such a step.
 //! 3. Another handle may make such a commit. So the laws of calls are of the only handle of a pool, whose number is 0.
+//!    `shared.rt` has what holds of several.
+//! 4. What is durable is acknowledged, if the past of the pool explains it. So with a durable transaction a crash leaves
+//!    each earlier one.
 
+ghost use Rattle.fronts.specs.DurableTransactions.{DurableEntriesHaveAllBefore, DurableTransactsHaveAllBefore, TransactsAreExplained, WaitsStayExplained};
 ghost use Rattle.fronts.specs.RisingPools.{CallsGoOnRising, FirstHandlesRise, OtherCallsGoOnRising, PoolStepsKeepRising, SteppedPoolsLeaveFronts, TransactionsKeepRising, TransactsGoOnRising};
 
 use device_model::SectorDevice;
@@ -46,4 +50,24 @@ pub fn other_calls_go_on_rising<D: SectorDevice>()
 /// So do two calls, one after the other: over both of them a crash leaves a front of all that was committed by then.
 pub fn calls_go_on_rising<D: SectorDevice>()
     ensures { CallsGoOnRising D.SectorDevice }
+{}
+
+/// If groups rise, whatever a crash leaves has each entry that is durable, with all before it.
+pub fn durable_entries_have_all_before()
+    ensures { DurableEntriesHaveAllBefore }
+{}
+
+/// A transaction that was made leaves a pool that its past explains, whatever other handles do beside it.
+pub fn transacts_are_explained<D: SectorDevice>()
+    ensures { TransactsAreExplained D.SectorDevice }
+{}
+
+/// A wait for a receipt keeps that, however it ends: also by a sync, after which the handle doesn't look.
+pub fn waits_stay_explained<D: SectorDevice>()
+    ensures { WaitsStayExplained D.SectorDevice }
+{}
+
+/// With a durable transaction of the only handle, whatever a crash leaves then has each earlier one.
+pub fn durable_transacts_have_all_before<D: SectorDevice>()
+    ensures { DurableTransactsHaveAllBefore D.SectorDevice }
 {}
