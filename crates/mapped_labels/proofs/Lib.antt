@@ -1,0 +1,9 @@
+pub mod Sizes
+pub mod MapPlaces
+pub mod EntriesRead
+pub mod MappedReads
+pub mod MappedWrites
+pub mod MappedPlaces
+pub mod MappedChosen
+pub mod MappedImages
+pub mod MappedStands
