@@ -1,6 +1,6 @@
 -- A handle that commits a transaction or syncs stays in its pool, and sees what goes on from what it had seen.
 use Rattle.std.proofs.Common.{List, inl, inr}
-use Rattle.std.specs.Prelude.{IsTrue, Option, Result, Ok, Err, Some}
+use Rattle.std.specs.Prelude.{ℕ, IsTrue, Option, Result, Ok, Err, Some}
 use Rattle.base.specs.declared.error.PoolError.{PoolError}
 use Rattle.base.specs.declared.names.Group.{Group}
 use Rattle.base.specs.declared.names.Owner.{Owner}

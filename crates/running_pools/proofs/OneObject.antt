@@ -1,5 +1,5 @@
 -- What an operation on one object leaves: what it makes of it, and each other object as it was.
-use Rattle.std.proofs.Common.{◌≡◌, ◌≢◌, [], ℕ, List, Option, Some, None, Ok, ap, sym, ◌∙◌}
+use Rattle.std.proofs.Common.{◌≡◌, ◌≢◌, [], ℕ, List, Option, Some, None, Ok, ap, refl, subst, sym, ◌∙◌}
 use Rattle.std.specs.Prelude.{Result}
 use Rattle.std.specs.FinMap as map
 use Rattle.base.specs.declared.error.PoolError.{PoolError}
