@@ -14,6 +14,7 @@ mod OpenedReads
 mod TableReads
 mod PrintedFindings
 mod PrintedLabels
+pub mod ReadLabels
 mod ReportClients
 mod WrittenLists
 pub mod NamedUndone

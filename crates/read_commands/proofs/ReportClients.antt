@@ -1,5 +1,5 @@
 -- What reports print of an image, where there were no bytes before: of one object of two bytes, of a pool's name, of its space, and of its labels.
-use Rattle.std.proofs.Common.{◌≡◌, ◌++◌, ap, length, ℕ, List, [], ◌∷◌, refl, subst, sym, ◌∙◌}
+use Rattle.std.proofs.Common.{◌≡◌, ◌++◌, ◌+◌, ◌<◌, ap, append_assoc, arith, length, zero, suc, inl, inr, ℕ, List, [], ◌∷◌, refl, subst, sym, ◌∙◌}
 use Rattle.std.specs.FinMap as finite
 use Rattle.std.specs.Fmt.{decimal, digits}
 use Rattle.std.specs.Io.KnownBytes.{Appends}
@@ -8,6 +8,7 @@ use Rattle.base.specs.tree.Mount.{MountsTo}
 use Rattle.base.specs.declared.names.ObjectId.{ObjectId}
 use Rattle.base.specs.formats.Geometry.{block_count}
 use Rattle.base.specs.formats.Limits.{one_level_length}
+use Rattle.base.specs.formats.Uberblocks.{HasNoUberblock}
 use Rattle.base.specs.history.Contents.{Contents}
 use Rattle.command_arguments.specs.declared.reports.Scope.{Scope}
 use Rattle.command_arguments.specs.declared.reports.SpaceUnit.TheVariants as unit
@@ -16,8 +17,12 @@ use Rattle.read_commands.specs.JsonLabels.{PrintsLabels, json_active, json_confi
 use Rattle.read_commands.specs.LabelTexts.{WritesFour, active_text, config_text, found_text, four_texts, ring_text}
 use Rattle.read_commands.specs.ObjectBlocks.{long_lines}
 use Rattle.read_commands.specs.PoolLines.{WritesInspected}
+use Rattle.read_commands.specs.ReadLabels.{AreCounted, IsActiveFound}
 use Rattle.read_commands.specs.ReadScopes.{WritesObjects}
 use Rattle.read_commands.specs.Space.{amount_text, block_bytes, pool_space_lines, space_lines}
+use Rattle.read_commands.specs.declared.label_texts.Active.{Active}
+use Rattle.read_commands.specs.declared.label_texts.Active.TheVariants as uberblock
+use Rattle.uberblocks.specs.Slots.{HoldsNoUberblock}
 use Rattle.read_commands.proofs.MountedBytes.{appended}
 use Rattle.read_commands.proofs.PoolLines.{told_of}
 use Rattle.read_commands.proofs.ScopedReads.{assured, seven_listed}
@@ -92,7 +97,7 @@ zeroth_label : (config rest : List ℕ) → codes "{\"labels\":[" ++ ((codes "{\
 unfolding digits
 zeroth_label config rest = refl
 
-pub labels_told : (before after : Option (List ℕ)) → before ≡ Some [] → PrintsLabels before after → (rest : List ℕ) × (after ≡ Some (codes "{\"labels\":[{\"label\":0,\"config\":" ++ rest))
+pub labels_told : {keeps : Type 0} {image : List ℕ} (before after : Option (List ℕ)) → before ≡ Some [] → PrintsLabels keeps image before after → (rest : List ℕ) × (after ≡ Some (codes "{\"labels\":[{\"label\":0,\"config\":" ++ rest))
 labels_told before after empty p =
     let text : List ℕ = json_four p.zeroth p.first p.second p.third p.active in
     let config : List ℕ = json_config p.zeroth.config ++ (codes "," ++ (json_ring p.zeroth.count p.zeroth.highest ++ codes "}")) in
@@ -105,9 +110,38 @@ zeroth_line : (config rest : List ℕ) → (codes "label " ++ (decimal 0 ++ (cod
 unfolding digits
 zeroth_line config rest = refl
 
-pub lines_told : (before after : Option (List ℕ)) → before ≡ Some [] → WritesFour before after → (rest : List ℕ) × (after ≡ Some (codes "label 0 config " ++ rest))
+pub lines_told : {keeps : Type 0} {image : List ℕ} (before after : Option (List ℕ)) → before ≡ Some [] → WritesFour keeps image before after → (rest : List ℕ) × (after ≡ Some (codes "label 0 config " ++ rest))
 lines_told before after empty p =
     let text : List ℕ = four_texts p.zeroth p.first p.second p.third p.active in
     let config : List ℕ = config_text p.zeroth.config ++ (codes "\nlabel " ++ (decimal 0 ++ (codes " uberblocks " ++ (ring_text p.zeroth.count p.zeroth.highest ++ codes "\n")))) in
     let rest : List ℕ = found_text 1 p.first ++ (found_text 2 p.second ++ (found_text 3 p.third ++ (codes "active " ++ (active_text p.active ++ codes "\n")))) in
     (config ++ rest, appended after text (subst (λ (b : Option (List ℕ)). Appends b after text) empty p.writes) ∙ ap Some (zeroth_line config rest))
+
+-- of an image without an uberblock none is active, and the last line says so
+none_active : (image : List ℕ) (active : Active) → HasNoUberblock image → IsActiveFound image active → active ≡ uberblock.Missing
+none_active image uberblock.Missing none found = refl
+none_active image (uberblock.Unplaced group) none found = absurd found
+none_active image (uberblock.Found group label) none (u, a, same, here) = absurd (none a.label u a.in_range a.stands)
+
+last_line : (a b c d last : List ℕ) → a ++ (b ++ (c ++ (d ++ last))) ≡ (a ++ (b ++ (c ++ d))) ++ last
+last_line a b c d last =
+    ap (λ (l : List ℕ). a ++ (b ++ l)) (sym (append_assoc c d last)) ∙ ap (λ (l : List ℕ). a ++ l) (sym (append_assoc b (c ++ d) last)) ∙ sym (append_assoc a (b ++ (c ++ d)) last)
+
+pub none_active_told : {keeps : Type 0} {image : List ℕ} (before after : Option (List ℕ)) → before ≡ Some [] → keeps → HasNoUberblock image → WritesFour keeps image before after → (front : List ℕ) × (after ≡ Some (front ++ codes "active none\n"))
+none_active_told {image = image} before after empty keeps none p =
+    let text : List ℕ = four_texts p.zeroth p.first p.second p.third p.active in
+    let missing : p.active ≡ uberblock.Missing = none_active image p.active none (p.found keeps).of_active in
+    let front : List ℕ = found_text 0 p.zeroth ++ (found_text 1 p.first ++ (found_text 2 p.second ++ found_text 3 p.third)) in (
+      front,
+      appended after text (subst (λ (b : Option (List ℕ)). Appends b after text) empty p.writes) ∙ ap Some (
+          last_line (found_text 0 p.zeroth) (found_text 1 p.first) (found_text 2 p.second) (found_text 3 p.third) (codes "active " ++ (active_text p.active ++ codes "\n"))
+          ∙ ap (λ (a : Active). front ++ (codes "active " ++ (active_text a ++ codes "\n"))) missing
+          ),
+    )
+
+-- no uberblock is counted if no slot holds one
+pub none_counted : (slots : ℕ → List ℕ) (k count highest : ℕ) → ((slot : ℕ) → slot < k → HoldsNoUberblock (slots slot)) → AreCounted slots k count highest → count ≡ 0
+unfolding AreCounted
+none_counted slots zero count highest none counted = counted.0
+none_counted slots (suc k) count highest none (before, top, counted, inl (u, held, more, higher)) = absurd (none k (omega arith) u held)
+none_counted slots (suc k) count highest none (before, top, counted, inr (lacks, same, still)) = same ∙ none_counted slots k before top (λ slot below. none slot (omega (arith, below))) counted

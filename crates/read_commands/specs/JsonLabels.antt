@@ -4,9 +4,10 @@ use Rattle.std.specs.Fmt.{decimal}
 use Rattle.std.specs.Io.KnownBytes.{Appends}
 use Rattle.read_commands.specs.declared.label_lines.ConfigFound.{ConfigFound}
 use Rattle.read_commands.specs.declared.label_lines.ConfigFound.TheVariants as found
+use Rattle.read_commands.specs.declared.labels_read.Labels.{Labels}
 use Rattle.read_commands.specs.declared.label_texts.Active.{Active}
 use Rattle.read_commands.specs.declared.label_texts.Active.TheVariants as uberblock
-use Rattle.read_commands.specs.LabelTexts.{LabelFound}
+use Rattle.read_commands.specs.ReadLabels.{AreLabelsFound, AreLabelsRead, LabelFound}
 
 -- a config, or why there is none; the guid is a text, since it may pass 2^53
 abbrev pub json_config : ConfigFound → List ℕ
@@ -43,11 +44,22 @@ json_four zeroth first second third last =
     codes "{\"labels\":[" ++ (json_found_label 0 zeroth ++ (codes "," ++ (json_found_label 1 first ++ (codes "," ++ (json_found_label 2 second
     ++ (codes "," ++ (json_found_label 3 third ++ (codes "],\"active\":" ++ (json_active last ++ codes "}\n")))))))))
 
--- So it was printed.
-pub record PrintsLabels (old new : Option (List ℕ)) : Type 0 where
+-- So the labels that were read say, and it was printed.
+pub record PrintsRead (labels : Labels) (old new : Option (List ℕ)) : Type 0 where
   pub zeroth : LabelFound
   pub first : LabelFound
   pub second : LabelFound
   pub third : LabelFound
   pub active : Active
+  pub read : AreLabelsRead labels zeroth first second third active
+  pub writes : Appends old new (json_four zeroth first second third active)
+
+-- So it was printed, and so it is of the image, if the device keeps the model.
+pub record PrintsLabels (keeps : Type 0) (image : List ℕ) (old new : Option (List ℕ)) : Type 0 where
+  pub zeroth : LabelFound
+  pub first : LabelFound
+  pub second : LabelFound
+  pub third : LabelFound
+  pub active : Active
+  pub found : keeps → AreLabelsFound image zeroth first second third active
   pub writes : Appends old new (json_four zeroth first second third active)

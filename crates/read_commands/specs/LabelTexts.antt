@@ -4,8 +4,10 @@ use Rattle.std.specs.Fmt.{decimal}
 use Rattle.std.specs.Io.KnownBytes.{Appends}
 use Rattle.read_commands.specs.declared.label_lines.ConfigFound.{ConfigFound}
 use Rattle.read_commands.specs.declared.label_lines.ConfigFound.TheVariants as found
+use Rattle.read_commands.specs.declared.labels_read.Labels.{Labels}
 use Rattle.read_commands.specs.declared.label_texts.Active.{Active}
 use Rattle.read_commands.specs.declared.label_texts.Active.TheVariants as uberblock
+use Rattle.read_commands.specs.ReadLabels.{AreLabelsFound, AreLabelsRead, LabelFound}
 
 -- a config, or why there is none
 abbrev pub config_text : ConfigFound → List ℕ
@@ -29,12 +31,6 @@ active_text uberblock.Missing = codes "none"
 active_text (uberblock.Unplaced group) = decimal group.0
 active_text (uberblock.Found group label) = decimal group.0 ++ (codes " of label " ++ decimal label)
 
--- what was found of a label besides its number
-pub record LabelFound : Type 0 where
-  pub config : ConfigFound
-  pub count : ℕ
-  pub highest : ℕ
-
 abbrev pub found_text : ℕ → LabelFound → List ℕ
 found_text number l = label_text number l.config l.count l.highest
 
@@ -43,11 +39,22 @@ abbrev pub four_texts : LabelFound → LabelFound → LabelFound → LabelFound 
 four_texts zeroth first second third last =
     found_text 0 zeroth ++ (found_text 1 first ++ (found_text 2 second ++ (found_text 3 third ++ (codes "active " ++ (active_text last ++ codes "\n")))))
 
--- So it was written.
-pub record WritesFour (old new : Option (List ℕ)) : Type 0 where
+-- So the labels that were read say, and it was written.
+pub record WritesRead (labels : Labels) (old new : Option (List ℕ)) : Type 0 where
   pub zeroth : LabelFound
   pub first : LabelFound
   pub second : LabelFound
   pub third : LabelFound
   pub active : Active
+  pub read : AreLabelsRead labels zeroth first second third active
+  pub writes : Appends old new (four_texts zeroth first second third active)
+
+-- So it was written, and so it is of the image, if the device keeps the model.
+pub record WritesFour (keeps : Type 0) (image : List ℕ) (old new : Option (List ℕ)) : Type 0 where
+  pub zeroth : LabelFound
+  pub first : LabelFound
+  pub second : LabelFound
+  pub third : LabelFound
+  pub active : Active
+  pub found : keeps → AreLabelsFound image zeroth first second third active
   pub writes : Appends old new (four_texts zeroth first second third active)

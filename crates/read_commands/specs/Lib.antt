@@ -19,6 +19,7 @@ pub mod NamedUndone
 pub mod Json
 pub mod JsonLabels
 pub mod LabelTexts
+pub mod ReadLabels
 pub mod ObjectBlocks
 pub mod Space
 pub mod Written

@@ -41,9 +41,9 @@ WritesList list_form.Long scope keeps image old new = WritesObjects scope keeps 
 WritesList list_form.Json scope keeps image old new = WritesObjects scope keeps image json_listed old new
 
 -- what the labels hold, in lines or as JSON
-abbrev pub WritesLabels : ReportForm → Option (List ℕ) → Option (List ℕ) → Type 0
-WritesLabels report_form.Lines old new = WritesFour old new
-WritesLabels report_form.Json old new = PrintsLabels old new
+abbrev pub WritesLabels : ReportForm → Type 0 → List ℕ → Option (List ℕ) → Option (List ℕ) → Type 0
+WritesLabels report_form.Lines keeps image old new = WritesFour keeps image old new
+WritesLabels report_form.Json keeps image old new = PrintsLabels keeps image old new
 
 -- what was asked for was written, after what the writer had
 abbrev pub WritesAsked : ReadCommand → Type 0 → List ℕ → Option (List ℕ) → Option (List ℕ) → Type 0
@@ -51,6 +51,6 @@ WritesAsked (command.Show given) keeps image old new = WritesShown given.form ke
 WritesAsked (command.Check given) keeps image old new = WritesChecked given.all given.form 0 keeps image old new
 WritesAsked (command.List given) keeps image old new = WritesList given.form given.scope keeps image old new
 WritesAsked (command.Space given) keeps image old new = WritesInspected keeps image (pool_space_lines given.unit) old new
-WritesAsked (command.Labels given) keeps image old new = WritesLabels given.form old new
+WritesAsked (command.Labels given) keeps image old new = WritesLabels given.form keeps image old new
 WritesAsked (command.Get given scope) keeps image old new = WritesRange scope keeps image given.object (asked_range given) old new
 WritesAsked (command.GetNamed given scope) keeps image old new = WritesNamed scope keeps image given.name.now (named_range given) old new

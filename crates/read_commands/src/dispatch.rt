@@ -238,8 +238,9 @@ fn show_labels<D: SectorDevice + NotesRefusals + Drop, W: Write, E: Write>(
     errors: &mut E,
 ) -> u8
     ensures unusable { IsErr opened → result ≡ 3 }
-    ensures printed { result ≡ 0
-        → WritesLabels arguments.entry.form (W.contents out.old) (W.contents out.new) }
+    ensures printed { result ≡ 0 → IfOk opened (λ device. WritesLabels arguments.entry.form
+        (IsTrue D.keeps_model) (bytes_of (D.disk device).now)
+        (W.contents out.old) (W.contents out.new)) }
     ensures undone { result ≢ 0 → AskedUndone D.SectorDevice (ReadCommand.Labels arguments.entry)
         opened result (W.contents out.old) (W.contents out.new) }
     ensures range { result ≤ 3 }

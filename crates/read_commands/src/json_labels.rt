@@ -1,15 +1,17 @@
 //! The command `labels` with `--json`: one object of JSON in one line, with the keys of `docs/COMMANDS.md`. It only
 //! reads.
 
-ghost use Rattle.std.specs.Prelude.{◌≡◌, ◌≢◌, ◌≤◌, IfOk, IsErr, OnOk};
+ghost use Rattle.std.specs.Prelude.{◌≡◌, ◌≢◌, ◌≤◌, IfOk, IsErr, IsTrue, OnOk};
+ghost use Rattle.base.specs.disk.Disk.{bytes_of};
 ghost use Rattle.base.specs.formats.Geometry.{IsGeometry};
 ghost use Rattle.read_commands.specs.Checks.{StaysOpened};
-ghost use Rattle.read_commands.specs.JsonLabels.{PrintsLabels};
+ghost use Rattle.read_commands.specs.JsonLabels.{PrintsLabels, PrintsRead};
 ghost use Rattle.read_commands.specs.Undone.{ChecksUndone};
 
 use crate::failure::{Failure, NotesRefusals, report_failure};
-use crate::label_lines::{ConfigFound, Labels, read_opened_labels};
+use crate::label_lines::{ConfigFound, read_opened_labels};
 use crate::label_texts::{Active, Label, Ring, active_of, ring_of};
+use crate::labels_read::Labels;
 use command_arguments::Verbosity;
 use device_model::SectorDevice;
 use file_devices::FileRefusal;
@@ -32,7 +34,8 @@ pub fn run_json_labels<D: SectorDevice + NotesRefusals, W: Write, E: Write>(
     ensures only_read { StaysOpened D.SectorDevice opened.old opened.new }
     ensures unusable { IsErr opened.old → result ≡ 3 }
     ensures size { IfOk opened.old (λ device. (IsGeometry (D.size device) → ⊥) → result ≡ 1) }
-    ensures printed { result ≡ 0 → PrintsLabels (W.contents out.old) (W.contents out.new) }
+    ensures printed { result ≡ 0 → IfOk opened.old (λ device. PrintsLabels (IsTrue D.keeps_model)
+        (bytes_of (D.disk device).now) (W.contents out.old) (W.contents out.new)) }
     ensures undone { result ≢ 0 → ChecksUndone D.SectorDevice opened.old opened.new result }
     ensures unprinted { result ≡ 1 → W.contents out.new ≡ W.contents out.old }
     ensures range { result ≤ 3 }
@@ -49,7 +52,7 @@ pub fn run_json_labels<D: SectorDevice + NotesRefusals, W: Write, E: Write>(
 }
 
 fn write_labels<W: Write>(labels: &Labels, out: &mut W) -> io::Result<()>
-    ensures { OnOk result (PrintsLabels (W.contents out.old) (W.contents out.new)) }
+    ensures { OnOk result (PrintsRead labels.now (W.contents out.old) (W.contents out.new)) }
 {
     writeln!(
         out,

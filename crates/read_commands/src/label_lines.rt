@@ -2,18 +2,24 @@
 //!
 //! So it says something of a file that holds no pool too: a config is there but for a file of another size, or none is.
 
-ghost use Rattle.std.specs.Prelude.{◌≡◌, ◌≢◌, ◌≤◌, ◌<◌, ◌*◌, ◌⊎◌, Err, IfErr, IfOk, IfSome, IsErr, IsTrue, OnOk, length, vec_len};
-ghost use Rattle.base.specs.disk.Disk.{bytes_of};
-ghost use Rattle.base.specs.formats.Geometry.{IsGeometry};
+ghost use Rattle.std.specs.Prelude.{ℕ, ◌≡◌, ◌≢◌, ◌≤◌, ◌<◌, ◌+◌, ◌*◌, ◌⊎◌, Err, IfErr, IfNone, IfOk, IfSome, IsErr, IsTrue, OnOk, false, length, max, true, vec_len};
+ghost use Rattle.base.specs.disk.Disk.{bytes_of, put};
+ghost use Rattle.base.specs.formats.Fields.{part};
+ghost use Rattle.base.specs.formats.Geometry.{IsGeometry, slot_count, slot_place};
+ghost use Rattle.base.specs.formats.Uberblocks.{IsUberblock};
+ghost use Rattle.base.specs.formats.Uberblocks as formats;
 ghost use Rattle.device_model.specs.Reading.{OnlyReads};
 ghost use Rattle.read_commands.specs.Checks.{IsCheckRefusal, StaysOpened};
 ghost use Rattle.read_commands.specs.FoundLabels.{IsReasonOf, IsStateOf, config_bytes_at, state_of};
 ghost use Rattle.read_commands.specs.LabelTexts.{WritesFour};
+ghost use Rattle.read_commands.specs.ReadLabels.{AreConfigsFound, AreCounted, AreLabelsOf, HasGroupAt, IsConfigFound, arrays_of, slots_read};
 ghost use Rattle.read_commands.specs.Undone.{IsCheckRefused, IsLookFailure, ChecksUndone};
-ghost use Rattle.uberblocks.specs.Rings.{ring_size};
+ghost use Rattle.uberblocks.specs.Rings.{HasNoneInRing, IsActiveInRing, IsRingOf, array_size, ring_size};
+ghost use Rattle.uberblocks.specs.Slots.{HoldsNoUberblock, fields_of};
 
 use crate::failure::{Failure, NotesRefusals, report_failure};
 use crate::label_texts::write_labels;
+use crate::labels_read::Labels;
 use base::{BLOCK_SIZE, Group, PoolError, are_zeros, read_u64};
 use command_arguments::Verbosity;
 use device_model::SectorDevice;
@@ -43,7 +49,8 @@ pub fn run_labels<D: SectorDevice + NotesRefusals, W: Write, E: Write>(
     ensures only_read { StaysOpened D.SectorDevice opened.old opened.new }
     ensures unusable { IsErr opened.old → result ≡ 3 }
     ensures size { IfOk opened.old (λ device. (IsGeometry (D.size device) → ⊥) → result ≡ 1) }
-    ensures printed { result ≡ 0 → WritesFour (W.contents out.old) (W.contents out.new) }
+    ensures printed { result ≡ 0 → IfOk opened.old (λ device. WritesFour (IsTrue D.keeps_model)
+        (bytes_of (D.disk device).now) (W.contents out.old) (W.contents out.new)) }
     ensures undone { result ≢ 0 → ChecksUndone D.SectorDevice opened.old opened.new result }
     ensures unprinted { result ≡ 1 → W.contents out.new ≡ W.contents out.old }
     ensures range { result ≤ 3 }
@@ -72,6 +79,8 @@ pub fn read_opened_labels<D: SectorDevice + NotesRefusals>(
     ensures size { IfOk opened.old (λ device. (IsGeometry (D.size device) → ⊥)
         → result ≡ Err (Failure.Refused PoolError.BadGeometry)) }
     ensures sized { OnOk result (IfOk opened.old (λ device. IsGeometry (D.size device))) }
+    ensures found { IsTrue D.keeps_model → IfOk result (λ labels. IfOk opened.old
+        (λ device. AreLabelsOf (bytes_of (D.disk device).now) labels)) }
     ensures failed { IfErr result
         (IsLookFailure (IsCheckRefused D.SectorDevice) opened.old opened.new) }
 {
@@ -85,34 +94,26 @@ pub fn read_opened_labels<D: SectorDevice + NotesRefusals>(
     }
 }
 
-/// What the four labels of a device hold.
-#[derive(Drop)]
-pub struct Labels {
-    /// What stands in the places of the four configs.
-    pub configs: [ConfigFound; 4],
-    // The uberblock arrays, which follow one another.
-    ring: Vec<u8>,
-    ghost size: { vec_len ring ≡ ring_size },
-}
-
 impl Labels {
     /// How many uberblocks a label has, and the highest group of these, or 0.
     pub fn count_uberblocks(&self, label: usize) -> (usize, Group)
         requires { label < 4 }
+        ensures counted { AreCounted (slots_read (arrays_of self.now) label) slot_count result.0
+            result.1.0 }
     {
-        let mut count: usize = 0;
-        let mut highest = Group(0);
+        let mut counted = (0, Group(0));
         for position in 0..SLOT_COUNT {
-            if let Some(found) = uberblock_at(&self.ring, label, position) {
-                count = count.saturating_add(1);
-                highest = highest.max(found.group);
-            }
+            counted = count_with(counted, uberblock_at(&self.ring, label, position));
         }
-        (count, highest)
+        counted
     }
 
     /// The group of the active uberblock, if there is one.
-    pub fn active_group(&self) -> Option<Group> {
+    pub fn active_group(&self) -> Option<Group>
+        ensures active { IfSome result (λ group. (u : formats.Uberblock)
+            × IsActiveInRing (arrays_of self.now) u × (u.group ≡ group.0)) }
+        ensures none { IfNone result (HasNoneInRing (arrays_of self.now)) }
+    {
         match active(&self.ring) {
             Some(uberblock) => Some(uberblock.group),
             None => None,
@@ -121,13 +122,16 @@ impl Labels {
 
     /// The lowest label that has the uberblock of a group.
     pub fn label_of(&self, group: Group) -> Option<usize>
-        ensures { IfSome result (λ label. label < 4) }
+        ensures label { IfSome result (λ label. label < 4) }
+        ensures found { IfSome result (λ label. HasGroupAt (arrays_of self.now) label group) }
+        ensures lowest { IfSome result (λ label. (k : ℕ) → k < label
+            → HasGroupAt (arrays_of self.now) k group → ⊥) }
+        ensures none { IfNone result ((k : ℕ) → k < 4
+            → HasGroupAt (arrays_of self.now) k group → ⊥) }
     {
         for label in 0..LABEL_COUNT {
-            if let Some(found) = uberblock_at(&self.ring, label, slot(group)) {
-                if found.group == group {
-                    return Some(label);
-                }
+            if has_group(&self.ring, label, group) {
+                return Some(label);
             }
         }
         None
@@ -154,6 +158,8 @@ pub enum ConfigFound {
 pub fn read_labels<D: SectorDevice>(alloc: Global, device: &mut D) -> Result<Labels, PoolError>
     ensures reads { OnlyReads D.SectorDevice result device.old device.new }
     ensures sized { OnOk result (IsGeometry (D.size device.old)) }
+    ensures found { IsTrue D.keeps_model
+        → IfOk result (AreLabelsOf (bytes_of (D.disk device.old).now)) }
     ensures refused { IfErr result (IsCheckRefusal (D.size device.old)) }
 {
     let geometry = Geometry::of(device.sectors())?;
@@ -171,6 +177,8 @@ fn read_ring<D: SectorDevice>(
     requires { D.size device.old ≡ geometry }
     ensures reads { OnlyReads D.SectorDevice result device.old device.new }
     ensures length { IfOk result (λ ring. vec_len ring ≡ ring_size) }
+    ensures ring { IsTrue D.keeps_model → IfOk result
+        (λ ring. IsRingOf ring.items (bytes_of (D.disk device.old).now)) }
     ensures refused { IfErr result (λ e. (e ≡ PoolError.NoMemory) ⊎ (e ≡ PoolError.Read)) }
 {
     let mut ring = blank(alloc, LABEL_COUNT * ARRAY_SIZE)?;
@@ -199,6 +207,10 @@ fn read_array<D: SectorDevice>(
     ensures reads { OnlyReads D.SectorDevice result device.old device.new }
     ensures refused { IfErr result (λ e. e ≡ PoolError.Read) }
     ensures length { length ring.new ≡ ring_size }
+    ensures within { slot_place geometry label 0 + array_size ≤ geometry }
+    ensures array { IsTrue D.keeps_model → OnOk result (ring.new
+        ≡ put (array_size * label) (part (bytes_of (D.disk device.old).now)
+        (slot_place geometry label 0) array_size) ring.old) }
 {
     let at = geometry.label_place(label) + ARRAY_AT;
     device.read(at, &mut ring[ARRAY_SIZE * label..ARRAY_SIZE * (label + 1)])
@@ -212,6 +224,8 @@ fn read_configs<D: SectorDevice>(
     requires { D.size device.old ≡ geometry }
     ensures reads { OnlyReads D.SectorDevice result device.old device.new }
     ensures refused { IfErr result (λ e. e ≡ PoolError.Read) }
+    ensures found { IsTrue D.keeps_model
+        → IfOk result (AreConfigsFound (bytes_of (D.disk device.old).now)) }
 {
     Ok([
         read_config(device, geometry, 0)?,
@@ -237,6 +251,9 @@ pub(crate) fn read_config<D: SectorDevice>(
     ensures found { IsTrue D.keeps_model → IfOk result (λ f. IsStateOf
         (config_bytes_at (bytes_of (D.disk device.old).now) label)
         (length (bytes_of (D.disk device.old).now)) (state_of f)) }
+    ensures config { IsTrue D.keeps_model → IfOk result (λ f. IsConfigFound
+        (config_bytes_at (bytes_of (D.disk device.old).now) label)
+        (length (bytes_of (D.disk device.old).now)) f) }
 {
     let mut block = [0; BLOCK_SIZE];
     device.read(geometry.config_place(label), &mut block[..])?;
@@ -245,7 +262,8 @@ pub(crate) fn read_config<D: SectorDevice>(
 
 // What a block is as the config of a device of this size.
 fn find_config(block: &[u8; BLOCK_SIZE], size: u64) -> ConfigFound
-    ensures { IsStateOf block.now size (state_of result) }
+    ensures state { IsStateOf block.now size (state_of result) }
+    ensures config { IsConfigFound block.now size result }
 {
     match LabelConfig::decode(block, size) {
         Some(config) => ConfigFound::Config(config),
@@ -275,11 +293,40 @@ fn find_contents(block: &[u8; BLOCK_SIZE]) -> ConfigFound
     }
 }
 
+// How many uberblocks there are with that of one more slot, and the highest group of these.
+fn count_with(before: (usize, Group), found: Option<Uberblock>) -> (usize, Group)
+    requires { before.0 < 128 }
+    ensures some { IfSome found (λ u. (result.0 ≡ before.0 + 1)
+        × (result.1.0 ≡ max before.1.0 u.group.0)) }
+    ensures none { IfNone found (result ≡ before) }
+{
+    match found {
+        Some(uberblock) => (before.0 + 1, Group(before.1.0.max(uberblock.group.0))),
+        None => before,
+    }
+}
+
+// Whether a label has the uberblock of a group, in the slot of that.
+fn has_group(ring: &[u8], label: usize, group: Group) -> bool
+    requires label { label < 4 }
+    requires ring { length ring.now ≡ ring_size }
+    ensures there { result ≡ true → HasGroupAt ring.now label group }
+    ensures none { result ≡ false → HasGroupAt ring.now label group → ⊥ }
+{
+    match uberblock_at(ring, label, slot(group)) {
+        Some(uberblock) => uberblock.group.0 == group.0,
+        None => false,
+    }
+}
+
 // The uberblock in a slot of a label.
 fn uberblock_at(ring: &[u8], label: usize, position: usize) -> Option<Uberblock>
     requires label { label < 4 }
     requires position { position < 128 }
     requires ring { length ring.now ≡ ring_size }
+    ensures some { IfSome result
+        (λ u. IsUberblock (slots_read ring.now label position) (fields_of u)) }
+    ensures none { IfNone result (HoldsNoUberblock (slots_read ring.now label position)) }
 {
     let at = ARRAY_SIZE * label + SLOT_SIZE * position;
     let mut bytes = [0; SLOT_SIZE];

@@ -1,16 +1,19 @@
 //! What `labels` tells of each label, and of the active uberblock, in lines.
 
 ghost use Rattle.std.specs.Prelude.{◌<◌, OnOk};
-ghost use Rattle.read_commands.specs.LabelTexts.{WritesFour};
+ghost use Rattle.base.specs.formats.Geometry.{slot_count};
+ghost use Rattle.read_commands.specs.LabelTexts.{WritesRead};
+ghost use Rattle.read_commands.specs.ReadLabels.{AreCounted, IsActiveRead, arrays_of, slots_read};
 
-use crate::label_lines::{ConfigFound, Labels};
+use crate::label_lines::ConfigFound;
+use crate::labels_read::Labels;
 use base::Group;
 use std::fmt;
 use std::io::{self, Write};
 
 /// Writes two lines for each label, and one for the active uberblock.
 pub(crate) fn write_labels<W: Write>(labels: &Labels, out: &mut W) -> io::Result<()>
-    ensures { OnOk result (WritesFour (W.contents out.old) (W.contents out.new)) }
+    ensures { OnOk result (WritesRead labels.now (W.contents out.old) (W.contents out.new)) }
 {
     writeln!(
         out,
@@ -42,13 +45,17 @@ pub(crate) fn write_labels<W: Write>(labels: &Labels, out: &mut W) -> io::Result
 /// How many uberblocks a label has, and the highest group of these.
 pub(crate) fn ring_of(labels: &Labels, label: usize) -> Ring
     requires { label < 4 }
+    ensures { AreCounted (slots_read (arrays_of labels.now) label) slot_count result.count
+        result.highest.0 }
 {
     let (count, highest) = labels.count_uberblocks(label);
     Ring { count, highest }
 }
 
 /// The active uberblock, and the lowest label that has it.
-pub(crate) fn active_of(labels: &Labels) -> Active {
+pub(crate) fn active_of(labels: &Labels) -> Active
+    ensures { IsActiveRead (arrays_of labels.now) result }
+{
     let Some(group) = labels.active_group() else {
         return Active::Missing;
     };

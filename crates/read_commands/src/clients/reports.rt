@@ -4,14 +4,18 @@ ghost use Rattle.std.specs.Prelude.{ℕ, ◌≡◌, ◌<◌, ◌++◌, [], ◌�
 ghost use Rattle.std.specs.FinMap as finite;
 ghost use Rattle.base.specs.tree.Mount.{MountsTo};
 ghost use Rattle.base.specs.disk.Disk.{bytes_of};
+ghost use Rattle.base.specs.formats.Uberblocks.{HasNoUberblock};
 ghost use Rattle.base.specs.history.Contents.{Contents};
+ghost use Rattle.read_commands.specs.ReadLabels.{arrays_of, slots_read};
+ghost use Rattle.uberblocks.specs.Slots.{HoldsNoUberblock};
 
 use super::BRIEF;
 use crate::dispatch::run_opened;
 use crate::failure::NotesRefusals;
 use crate::json_labels::run_json_labels;
 use crate::json_reports::{run_json_list, run_json_show};
-use crate::label_lines::{Labels, run_labels};
+use crate::label_lines::run_labels;
+use crate::labels_read::Labels;
 use crate::long_list::run_long_list;
 use crate::pool_space::{Space, run_space, write_space};
 use base::Group;
@@ -153,6 +157,27 @@ fn a_look_at_the_labels_of_a_small_file_prints_nothing<
     ensures { W.contents out.new ≡ W.contents out.old }
 {
     run_json_labels(alloc, "tank.pool", BRIEF, &mut Ok(device), out, errors);
+}
+
+// The output had no bytes before.
+fn no_uberblock_is_active_if_no_label_has_one<
+    D: SectorDevice + NotesRefusals + Drop,
+    W: Write,
+    E: Write,
+>(alloc: Global, device: D, out: &mut W, errors: &mut E) -> u8
+    ensures { result ≡ 0 → IsTrue D.keeps_model
+        → HasNoUberblock (bytes_of (D.disk device).now) → W.contents out.old ≡ Some []
+        → (front : List ℕ) × (W.contents out.new ≡ Some (front ++ codes "active none\n")) }
+{
+    run_labels(alloc, "tank.pool", BRIEF, &mut Ok(device), out, errors)
+}
+
+fn a_label_whose_slots_hold_nothing_has_no_uberblock(labels: &Labels) -> (usize, Group)
+    requires { (slot : ℕ) → slot < 128
+        → HoldsNoUberblock (slots_read (arrays_of labels.now) 0 slot) }
+    ensures { result.0 ≡ 0 }
+{
+    labels.count_uberblocks(0)
 }
 
 fn a_label_that_has_an_uberblock_is_one_of_four(labels: &Labels, group: Group) -> Option<usize>
