@@ -6,3 +6,4 @@ pub mod PayloadSums
 pub mod TakenBlocks
 pub mod RegionBits
 pub mod NodeReads
+pub mod FirmMaps

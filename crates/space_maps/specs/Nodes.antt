@@ -1,9 +1,8 @@
 -- What the nodes of a map say, in bytes: bits of blocks, and entries of nodes.
 use Rattle.std.specs.Prelude.{ℕ, zero, suc, ◌≡◌, ◌+◌, ◌*◌, ◌/◌, ◌%◌, Bool, true, false, cond, get_or, List, nat_eq}
 use Rattle.std.specs.Int.{bit_at}
-use Rattle.base.specs.formats.Fields.{number_at, number_bytes, pointer_at, pointer_bytes, no_pointer}
-use Rattle.std.specs.Prelude.{◌++◌}
-use Rattle.space_maps.specs.declared.entry.MapEntry.{MapEntry}
+use Rattle.mapped_labels.specs.declared.map_entry.MapEntry.{MapEntry}
+use Rattle.mapped_labels.specs.Entries.{map_entry_at}
 use Rattle.space_maps.specs.declared.node.NodeKind.{NodeKind}
 use Rattle.space_maps.specs.declared.node.NodeKind.TheVariants.{Bits, Entries}
 
@@ -21,18 +20,6 @@ unfoldable pub count_true : (ℕ → Bool) → ℕ → ℕ
 count_true is zero = 0
 count_true is (suc n) = count_true is n + cond (is n) 1 0
 
--- the entry of 56 bytes at a place: a pointer of 48, and 8 of a count
-abbrev pub map_entry_at : List ℕ → ℕ → MapEntry
-map_entry_at bytes at = record { pointer = pointer_at bytes at; count = number_at bytes (at + 48) }
-
 -- the entry of this number in the payload of a map node
 abbrev pub map_entry_in : List ℕ → ℕ → MapEntry
 map_entry_in payload e = map_entry_at payload (56 * e)
-
--- an entry as it is written
-abbrev pub map_entry_bytes : MapEntry → List ℕ
-map_entry_bytes e = pointer_bytes e.pointer ++ number_bytes e.count
-
--- the entry of no node, 56 zero bytes
-abbrev pub no_entry : MapEntry
-no_entry = record { pointer = no_pointer; count = 0 }

@@ -6,10 +6,11 @@ use Rattle.base.specs.declared.pointer.Pointer.{Pointer}
 use Rattle.base.specs.formats.Fields.{no_pointer, part}
 use Rattle.base.specs.formats.Geometry.{block_size}
 use Rattle.base.specs.formats.Blocks.{Frame, IsBlock}
-use Rattle.space_maps.specs.declared.entry.MapEntry.{MapEntry}
-use Rattle.space_maps.specs.declared.shape.Side.{Side}
-use Rattle.space_maps.specs.Shapes.{bit_count, blocks_below, fan, level_size, side_address}
-use Rattle.space_maps.specs.Nodes.{bit_in, count_true, map_entry_in, no_entry}
+use Rattle.mapped_labels.specs.declared.map_entry.MapEntry.{MapEntry}
+use Rattle.mapped_labels.specs.declared.side.Side.{Side}
+use Rattle.mapped_labels.specs.Shapes.{bit_count, blocks_below, fan, level_size, side_address}
+use Rattle.mapped_labels.specs.Entries.{no_entry}
+use Rattle.space_maps.specs.Nodes.{bit_in, count_true, map_entry_in}
 
 -- these bytes are the block of the node of this kind and number that a pointer names: born when it says, and with its
 -- check

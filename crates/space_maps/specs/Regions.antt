@@ -3,7 +3,7 @@ use Rattle.std.specs.Prelude.{ℕ, ◌≡◌, ◌<◌, ◌≤◌, ◌+◌, ◌*�
 use Rattle.base.specs.formats.Geometry.{block_address}
 use Rattle.base.specs.steps.Locks.{is_in}
 use Rattle.space.specs.FreeSets.{FreeSpace, is_free}
-use Rattle.space_maps.specs.Shapes.{bit_count}
+use Rattle.mapped_labels.specs.Shapes.{bit_count}
 use Rattle.space_maps.specs.Nodes.{bit_in}
 
 -- the first block of the region of a bits block

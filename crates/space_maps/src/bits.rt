@@ -4,7 +4,7 @@
 ghost use Rattle.std.specs.Int.{bit_at};
 ghost use Rattle.std.specs.Prelude.{◌≡◌, ◌≢◌, ◌≤◌, ◌<◌, ℕ, cond, false, length, nat_eq, true};
 ghost use Rattle.base.specs.formats.Limits.{payload_size};
-ghost use Rattle.space_maps.specs.Shapes.{bit_count};
+ghost use Rattle.mapped_labels.specs.Shapes.{bit_count};
 ghost use Rattle.space_maps.specs.Nodes.{bit_in, count_true};
 
 use crate::entry::zero_payload;

@@ -1,49 +1,17 @@
-//! Entries of a map's nodes: what a node says of each node below it, and what an uberblock says of the highest one.
+//! The entries of a map's node: what it says of each node below it.
 
 ghost use Rattle.std.specs.Prelude.{◌≡◌, ◌≢◌, ◌≤◌, ◌<◌, ◌+◌, ◌*◌, ℕ, get_or, length};
-ghost use Rattle.base.specs.disk.Disk.{put};
 ghost use Rattle.base.specs.formats.Limits.{payload_size};
 ghost use Rattle.checked_blocks.specs.Sealing.{zeros};
-ghost use Rattle.space_maps.specs.Shapes.{fan};
-ghost use Rattle.space_maps.specs.Nodes.{map_entry_at, map_entry_bytes, map_entry_in, no_entry};
+ghost use Rattle.mapped_labels.specs.Shapes.{fan};
+ghost use Rattle.mapped_labels.specs.Entries.{no_entry};
+ghost use Rattle.space_maps.specs.Nodes.{map_entry_in};
 
-use base::{POINTER_SIZE, Pointer, read_pointer, read_u64, write_pointer, write_u64};
 use checked_blocks::PAYLOAD_SIZE;
+use mapped_labels::{MAP_ENTRY_SIZE, MapEntry, read_map_entry, write_map_entry};
 
 /// The entries of a map node.
 pub const FAN: usize = 72;
-
-/// The bytes of an entry: 48 of a pointer, 8 of a count.
-pub const MAP_ENTRY_SIZE: usize = 56;
-
-/// What a map says of a node.
-#[derive(Clone, Copy, PartialEq, Eq)]
-pub struct MapEntry {
-    /// The pointer to the node's live side. None if all blocks below the node are free.
-    pub pointer: Pointer,
-    /// How many blocks below it are free.
-    pub count: u64,
-}
-
-/// The entry of 56 bytes at a place.
-pub fn read_entry(bytes: &[u8], at: usize) -> MapEntry
-    requires { at + 56 ≤ length bytes.now }
-    ensures { result ≡ map_entry_at bytes.now at }
-{
-    MapEntry {
-        pointer: read_pointer(bytes, at),
-        count: read_u64(bytes, at + POINTER_SIZE),
-    }
-}
-
-/// Writes an entry's 56 bytes at a place.
-pub fn write_entry(bytes: &mut [u8], at: usize, entry: MapEntry)
-    requires { at + 56 ≤ length bytes.old }
-    ensures { bytes.new ≡ put at (map_entry_bytes entry) bytes.old }
-{
-    write_pointer(bytes, at, &entry.pointer);
-    write_u64(bytes, at + POINTER_SIZE, entry.count);
-}
 
 /// The entry of this index in the payload of a map node.
 pub fn entry_in(payload: &[u8], index: usize) -> MapEntry
@@ -51,7 +19,7 @@ pub fn entry_in(payload: &[u8], index: usize) -> MapEntry
     requires index { index < fan }
     ensures { result ≡ map_entry_in payload.now index }
 {
-    read_entry(payload, MAP_ENTRY_SIZE * index)
+    read_map_entry(payload, MAP_ENTRY_SIZE * index)
 }
 
 // Writes the entry of this index.
@@ -63,7 +31,7 @@ fn put_entry(payload: &mut [u8], index: usize, entry: MapEntry)
     ensures others { (e : ℕ) → e ≢ index
         → map_entry_in payload.new e ≡ map_entry_in payload.old e }
 {
-    write_entry(payload, MAP_ENTRY_SIZE * index, entry);
+    write_map_entry(payload, MAP_ENTRY_SIZE * index, entry);
 }
 
 /// A payload of zeros.

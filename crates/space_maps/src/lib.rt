@@ -8,14 +8,10 @@ mod laws;
 mod node;
 mod reading;
 mod regions;
-mod shape;
 
 pub use bits::{BIT_COUNT, bit_in, clear_bit, count_bits, no_bits, set_bit};
-pub use entry::{
-    FAN, MAP_ENTRY_SIZE, MapEntry, entries_payload, entry_in, read_entry, write_entry,
-};
-pub use laws::{maps_follow, other_sides_are_spare};
+pub use entry::{FAN, entries_payload, entry_in};
+pub use laws::{firm_maps_stand, maps_follow, other_sides_are_spare};
 pub use node::{NodeBlock, NodeKind, open_node, seal_node};
 pub use reading::{is_entry_of, read_node, take_used, test_bits, test_entries};
 pub use regions::bits_after;
-pub use shape::{MapShape, Side};

@@ -10,22 +10,22 @@ ghost use Rattle.base.specs.formats.Limits.{payload_size};
 ghost use Rattle.device_model.specs.Reading.{OnlyReads};
 ghost use Rattle.object_maps.specs.Cached.{IsBlockRefusal};
 ghost use Rattle.space.specs.FreeSets.{is_free};
-ghost use Rattle.space_maps.specs.Shapes.{bit_count, fan, node_count};
+ghost use Rattle.mapped_labels.specs.Shapes.{bit_count, fan, node_count};
 ghost use Rattle.space_maps.specs.Nodes.{bit_in, kind_number};
 ghost use Rattle.space_maps.specs.Opening.{AreClearFrom, HoldsBits, HoldsEntries, IsBitsFault, IsEntriesFault, IsEntryOf, IsNodeAt, IsNodePlace, IsNodeRefusal};
 ghost use Rattle.space_maps.specs.Regions.{TakesUsed};
 
 use crate::bits::{BIT_COUNT, bit_in, count_bits};
-use crate::entry::{FAN, MapEntry, entry_in};
+use crate::entry::{FAN, entry_in};
 use crate::node::{NodeKind, open_node};
-use crate::shape::MapShape;
 use base::{BLOCK_SIZE, Pointer, PoolError};
 use checked_blocks::Frame;
 use device_model::SectorDevice;
+use mapped_labels::{MapEntry, MappedGeometry};
 use space::FreeSet;
 
 // Whether a node may be where a pointer says, and as old.
-fn can_read(shape: MapShape, frame: &Frame, node: u64, pointer: &Pointer) -> bool
+fn can_read(shape: MappedGeometry, frame: &Frame, node: u64, pointer: &Pointer) -> bool
     requires { node < node_count shape }
     ensures place { IsTrue result ↔ IsNodePlace frame.now shape node pointer.now }
     ensures on_device { IsTrue result → IsOnDevice shape pointer.now.address block_size }
@@ -40,7 +40,7 @@ fn can_read(shape: MapShape, frame: &Frame, node: u64, pointer: &Pointer) -> boo
 /// frame's group, or the block there is another. `Read` if the device refuses the read.
 pub fn read_node<D: SectorDevice>(
     device: &mut D,
-    shape: MapShape,
+    shape: MappedGeometry,
     frame: &Frame,
     kind: NodeKind,
     node: u64,
@@ -71,7 +71,7 @@ pub fn read_node<D: SectorDevice>(
 
 /// Whether an entry is what a map may say of a node of a level. A node that the map has not has an entry of zeros.
 /// Another has a pointer, or none and all blocks below it as its count.
-pub fn is_entry_of(shape: MapShape, level: usize, index: u64, entry: &MapEntry) -> bool
+pub fn is_entry_of(shape: MappedGeometry, level: usize, index: u64, entry: &MapEntry) -> bool
     requires level { level < 4 }
     ensures { IsTrue result ↔ IsEntryOf shape level index entry.now }
 {
@@ -91,7 +91,7 @@ pub fn is_entry_of(shape: MapShape, level: usize, index: u64, entry: &MapEntry) 
 /// `Damaged` of kind 9, at the node's address if one of its entries is none, else at `holder` if its entry's count isn't
 /// the sum of theirs.
 pub fn test_entries(
-    shape: MapShape,
+    shape: MappedGeometry,
     level: usize,
     index: u64,
     entry: &MapEntry,
@@ -140,7 +140,7 @@ fn test_count(entry: &MapEntry, holder: u64, count: u128) -> Result<(), PoolErro
 /// `Damaged` of kind 8 at the block's address if a bit past the last block of the area is 1. Else `Damaged` of kind 9 at
 /// `holder` if the entry's count isn't the number of ones.
 pub fn test_bits(
-    shape: MapShape,
+    shape: MappedGeometry,
     index: u64,
     entry: &MapEntry,
     holder: u64,

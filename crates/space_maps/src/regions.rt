@@ -6,7 +6,7 @@ ghost use Rattle.base.specs.formats.Geometry.{block_address};
 ghost use Rattle.base.specs.formats.Limits.{payload_size};
 ghost use Rattle.base.specs.steps.Locks.{is_in};
 ghost use Rattle.space.specs.FreeSets.{is_free};
-ghost use Rattle.space_maps.specs.Shapes.{bit_count};
+ghost use Rattle.mapped_labels.specs.Shapes.{bit_count};
 ghost use Rattle.space_maps.specs.Nodes.{bit_in};
 ghost use Rattle.space_maps.specs.Laws as law;
 ghost use Rattle.space_maps.specs.Regions.{region_start, tree_bits};

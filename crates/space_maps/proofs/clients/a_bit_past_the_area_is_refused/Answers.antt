@@ -1,6 +1,6 @@
 use Rattle.std.proofs.Common.{◌≡◌, ◌≤◌, ◌∙◌, ℕ, sym, ap, arith}
 use Rattle.std.proofs.lemmas.Bool.{false≢true}
-use Rattle.space_maps.specs.Shapes.{blocks_below}
+use Rattle.mapped_labels.specs.Shapes.{blocks_below}
 use Rattle.space_maps.proofs.clients.a_bit_past_the_area_is_refused.Goals as goal
 
 region : (size : ℕ) → size ≡ 8392704 → blocks_below size 0 0 ≤ 895

@@ -1,5 +1,6 @@
 use Rattle.std.proofs.Common.{◌≡◌, ◌≤◌, ℕ, ◌<◌, length, get_or}
-use Rattle.space_maps.specs.Nodes.{map_entry_in, no_entry}
+use Rattle.mapped_labels.specs.Entries.{no_entry}
+use Rattle.space_maps.specs.Nodes.{map_entry_in}
 use Rattle.space_maps.proofs.entry.entries_payload.Given as goal
 
 abbrev pub invariant-loop-index : goal.invariant-loop-index

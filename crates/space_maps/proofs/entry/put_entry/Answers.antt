@@ -9,10 +9,10 @@ returns-clause-here c =
     let born : e.pointer.birth < 2 ^ 64 = search (rules, arith) in
     let fits : e.count < 2 ^ 64 = search (rules, arith) in
     let long : length e.pointer.check ≡ 32 = search rules in
-    rw c.write_entry.ensures (map_entry_in-put c.args.index e c.args.payload.now c.requires.size c.requires.index low born long fits)
+    rw c.write_map_entry.ensures (map_entry_in-put c.args.index e c.args.payload.now c.requires.size c.requires.index low born long fits)
 
 pub returns-clause-others : goal.returns-clause-others
 returns-clause-others c = λ r ne.
     let e = c.args.entry in
     let long : length e.pointer.check ≡ 32 = search rules in
-    rw c.write_entry.ensures (map_entry_in-put_other c.args.index r e c.args.payload.now c.requires.size c.requires.index long ne)
+    rw c.write_map_entry.ensures (map_entry_in-put_other c.args.index r e c.args.payload.now c.requires.size c.requires.index long ne)

@@ -1,9 +1,0 @@
-use Rattle.std.proofs.Common.{◌≡◌, ◌<◌, ◌^◌}
-use Rattle.space_maps.specs.Shapes.{nodes_over}
-use Rattle.space_maps.proofs.shape.nodes_over.Given as goal
-
-abbrev pub invariant-loop : goal.invariant-loop
-invariant-loop l = record {
-  nodes : l.nodes ≡ nodes_over l.total l.counter;
-  most : l.nodes < 2 ^ 18;
-}
