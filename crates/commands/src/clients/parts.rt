@@ -2,9 +2,7 @@
 
 ghost use Rattle.std.specs.Prelude.{◌≡◌, ◌≢◌, Err, Ok, false};
 
-use crate::changes::{
-    Put, Start, bad_number_of, first_byte, first_refusal, is_target, write_rest,
-};
+use crate::changes::{Put, Start, bad_number_of, first_byte, first_refusal, is_target, write_rest};
 use crate::put_room::lacks_room;
 use base::{Group, ObjectId, PoolError};
 use device_model::SectorDevice;
