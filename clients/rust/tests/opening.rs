@@ -38,10 +38,10 @@ fn a_create_replaces_no_file_unless_it_is_told() {
     assert!(matches!(Pool::create("false", &path, "tank", 77, SIZE), Err(Error::NotCreated { .. })));
 }
 
-/// A process that is killed loses what wasn't durable. The next open replays the rest.
-#[test]
-fn an_open_says_what_it_found() {
-    let path = new_pool("found.pool");
+/// What an open finds, and how many objects are there, once a process was killed behind a durable transaction and one
+/// more.
+fn found_after_a_kill(number: u32) -> (Opened, usize) {
+    let path = new_pool(&format!("found {number}.pool"));
     let pool = Pool::open(WITH_PID, &path).unwrap();
     assert_eq!(pool.opened(), Opened { guid: 77, group: 8, records: 0 });
     pool.transact(&[Op::Create(1)]).unwrap();
@@ -52,11 +52,19 @@ fn an_open_says_what_it_found() {
     assert!(matches!(pool.flush(), Err(Error::Ended)));
     assert!(matches!(pool.close(), Err(Error::BadEnd(_))));
     let pool = Pool::open(program(), &path).unwrap();
-    // Each import of the program syncs a group of its own; the stand-in's doesn't.
-    let Opened { guid, group, records } = pool.opened();
-    assert!(guid == 77 && group >= 8 && records == 2, "{:?}", pool.opened());
-    assert_eq!(pool.objects(0, 9).unwrap().len(), 2);
+    let found = (pool.opened(), pool.objects(0, 9).unwrap().len());
     pool.close().unwrap();
+    found
+}
+
+/// A process that is killed loses what wasn't durable. The next open replays the rest. On a busy machine the pool may be
+/// synced before the signal comes: then nothing is left to replay, and it is done again.
+#[test]
+fn an_open_says_what_it_found() {
+    let (found, objects) = (0..8).map(found_after_a_kill).find(|(found, _)| found.records > 0).unwrap();
+    // Each import of the program syncs a group of its own; the stand-in's doesn't.
+    assert!(found.guid == 77 && found.group >= 8 && found.records == 2, "{found:?}");
+    assert_eq!(objects, 2);
 }
 
 #[test]
